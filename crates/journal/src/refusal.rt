@@ -1,0 +1,29 @@
+// Why a journal cannot be laid.
+ghost use mathlib.Core.Path.{_≡_};
+ghost use Rattle.journal.specs.Refusals.{told};
+
+#[derive(Clone, Copy, PartialEq, Eq, Debug)]
+pub enum LayRefusal {
+    // No number that can stand there begins at the place.
+    WrongNumber(usize),
+    // The used bytes end, at the place, within an entry.
+    MissingNumber(usize),
+    // More bytes are said to be used than there are; the place is where they end.
+    UsedBeyondEnd(usize),
+    // A layer wants an empty journal beneath it.
+    EntryBeneath,
+}
+
+impl LayRefusal {
+    // The number by which users know the refusal, and the place that goes with it.
+    pub fn number_and_place(self) -> (u32, usize)
+        ensures { λ r. ⌜ r ≡ told self ⌝ }
+    {
+        match self {
+            LayRefusal::WrongNumber(place) => (14, place),
+            LayRefusal::MissingNumber(place) => (14, place),
+            LayRefusal::UsedBeyondEnd(place) => (14, place),
+            LayRefusal::EntryBeneath => (14, 0),
+        }
+    }
+}
