@@ -1,0 +1,96 @@
+// A journal over a lent table, with one entry in each place.
+ghost use Prim.Native.Nat.{_+_, _<_};
+ghost use mathlib.Core.Bool.{true};
+ghost use mathlib.Core.List.{[], _∷_};
+ghost use mathlib.Core.Path.{_≡_};
+ghost use lib.ListN.{length};
+ghost use denote.Ref.{now};
+ghost use Rattle.slot_journal.specs.Slots.{held, placesEnough, NewestPlace};
+use journal::entry::Entry;
+use journal::journal::Full;
+use journal::journal::Journal;
+
+// The oldest entry stands in place 0; the places from len on are free.
+#[derive(Drop)]
+pub struct SlotJournal<'a> {
+    slots: &'a mut [Entry],
+    len: usize,
+}
+
+// An entry and where it stands.
+#[derive(Clone, Copy)]
+struct Placed {
+    entry: Entry,
+    place: usize,
+}
+
+impl<'a> SlotJournal<'a> {
+    // The journal over the table, with no entry in it yet.
+    pub fn new(slots: &'a mut [Entry]) -> SlotJournal<'a>
+        ensures empty { λ r. ⌜ held (r .len) (now (r .slots)) ≡ [] ⌝ }
+        ensures rule { λ r. ⌜ placesEnough (now (r .slots)) ≡ placesEnough (now (slots .entry)) ⌝ }
+        ensures untouched { λ r. ⌜ now (r .slots) ≡ now (slots .entry) ⌝ }
+    {
+        SlotJournal { slots, len: 0 }
+    }
+
+    // Whether one entry more has a place.
+    fn has_room(&self, entry: Entry) -> bool
+        ensures rule { λ r. ⌜ placesEnough (now (now (self .entry) .slots)) (entry ∷ held (now (self .entry) .len) (now (now (self .entry) .slots))) ≡ r ⌝ }
+        ensures place { λ r. ⌜ (r ≡ true → now (self .entry) .len < length (now (now (self .entry) .slots))) ⌝ }
+    {
+        self.len < self.slots.len()
+    }
+
+    // The newest entry and its place.
+    fn last(&self) -> Option<Placed>
+        ensures { λ r. ⌜ NewestPlace (now (now (self .entry) .slots)) (now (self .entry) .len) r ⌝ }
+    {
+        let used = self.len.min(self.slots.len());
+        if used == 0 {
+            return None;
+        }
+        Some(Placed {
+            entry: self.slots[used - 1],
+            place: used - 1,
+        })
+    }
+}
+
+// Writes the entry into a place.
+fn put(slots: &mut [Entry], place: usize, entry: Entry)
+    requires { ⌜ place < length (now slots) ⌝ }
+    ensures list { λ _. ⌜ held (place + 1) (now (slots .exit)) ≡ entry ∷ held place (now (slots .entry)) ⌝ }
+    ensures rule { λ _. ⌜ placesEnough (now (slots .exit)) ≡ placesEnough (now (slots .entry)) ⌝ }
+{
+    slots[place] = entry;
+}
+
+pub impl<'a> Journal for SlotJournal<'a> as SlotJournalJournal {
+    ghost entries = { λ s. held (s .len) (now (s .slots)) };
+
+    ghost fits = { λ s. placesEnough (now (s .slots)) };
+
+    fn push(&mut self, entry: Entry) -> Result<(), Full> {
+        if !self.has_room(entry) {
+            return Err(Full);
+        }
+        let place = self.len;
+        put(self.slots, place, entry);
+        self.len = place + 1;
+        Ok(())
+    }
+
+    fn newest(&self) -> Option<Entry> {
+        match self.last() {
+            Some(last) => Some(last.entry),
+            None => None,
+        }
+    }
+
+    fn pop(&mut self) -> Option<Entry> {
+        let last = self.last()?;
+        self.len = last.place;
+        Some(last.entry)
+    }
+}
