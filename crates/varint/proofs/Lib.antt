@@ -1,0 +1,3 @@
+pub mod Writings
+pub mod Readings
+pub mod Foldings

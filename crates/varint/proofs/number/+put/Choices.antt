@@ -1,0 +1,4 @@
+use Rattle.varint.proofs.number.+put.Given as given
+
+abbrev pub μ-put : given.MeasureT-put
+μ-put l = l .n

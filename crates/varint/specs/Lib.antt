@@ -1,0 +1,4 @@
+pub mod Writings
+pub mod Readings
+pub mod Written
+pub mod Zigzag

@@ -1,0 +1,3 @@
+// Numbers in bytes: groups of seven bits, and signed numbers folded into unsigned ones.
+pub mod number;
+pub mod zigzag;

@@ -1,0 +1,129 @@
+// Reading and writing numbers of seven-bit groups.
+ghost use Prim.Native.Nat.{ℕ, _+_, _≤_, _<_};
+ghost use mathlib.Core.Path.{_≡_};
+ghost use mathlib.Core.List.{_++_};
+ghost use mathlib.Core.Bool.{true};
+ghost use lib.ListN.{length, take, drop};
+ghost use Rattle.std.specs.Vec.{made};
+ghost use Rattle.varint.specs.Writings.{writing};
+ghost use Rattle.varint.specs.Readings.{scanned, numberAt, Own};
+ghost use Rattle.varint.specs.Written.{Written, Wrote, ReadBack};
+
+// Why no number can be read, with the place.
+#[derive(Clone, Copy, PartialEq, Eq, Debug)]
+pub enum Fault {
+    // What begins at the place is no number: it begins with a later group, is not the shortest or is past 32 bits.
+    Malformed(usize),
+    // The bytes end at the place.
+    Ended(usize),
+}
+
+// The buffer has no room for a number.
+#[derive(Clone, Copy, PartialEq, Eq, Debug)]
+pub struct NoRoom;
+
+// A number as it stands in bytes, in any writing of at most five groups.
+#[derive(Clone, Copy)]
+struct Reading {
+    value: u32,
+    end: usize,
+    shortest: bool,
+}
+
+const MOST_GROUPS: usize = 5;
+
+// A value above this has no room for one group more in 32 bits.
+const MOST_BEFORE: u32 = 33_554_431;
+
+// The number that begins at a place, its end, and whether its writing is the shortest: which writings to take is the caller's choice.
+fn scan(bytes: &[u8], at: usize) -> Result<Reading, Fault>
+    ensures answer { λ r. ⌜ r ≡ scanned (now (bytes .entry)) at ⌝ }
+    ensures own { λ r. ⌜ made r (λ n. (n .shortest ≡ true → Own (now (bytes .entry)) at (n .value) (n .end))) ⌝ }
+{
+    if at >= bytes.len() {
+        return Err(Fault::Ended(bytes.len()));
+    }
+    let first = bytes[at];
+    if first >= 128 {
+        return Err(Fault::Malformed(at));
+    }
+    let mut value = u32::from(first);
+    let mut end = at + 1;
+    while end < bytes.len() && bytes[end] >= 128 {
+        if end - at >= MOST_GROUPS || value > MOST_BEFORE {
+            return Err(Fault::Malformed(at));
+        }
+        value = value * 128 + u32::from(bytes[end] - 128);
+        end += 1;
+    }
+    let shortest = end - at == 1 || first > 0;
+    Ok(Reading {
+        value,
+        end,
+        shortest,
+    })
+}
+
+// The number that begins at a place, and the place after it. Only its shortest writing is a number.
+pub fn read(bytes: &[u8], at: usize) -> Result<(u32, usize), Fault>
+    ensures answer { λ r. ⌜ r ≡ numberAt (now (bytes .entry)) at ⌝ }
+    ensures own { λ r. ⌜ made r (λ p. Own (now (bytes .entry)) at (p .0) (p .1)) ⌝ }
+{
+    let number = scan(bytes, at)?;
+    if !number.shortest {
+        return Err(Fault::Malformed(at));
+    }
+    Ok((number.value, number.end))
+}
+
+// How many groups follow the first one in the shortest writing.
+fn later_groups(n: u32) -> usize
+    ensures { λ r. ⌜ (1 + r ≡ length (writing n)) × (r ≤ 4) ⌝ }
+{
+    if n < 128 {
+        0
+    } else if n < 16_384 {
+        1
+    } else if n < 2_097_152 {
+        2
+    } else if n < 268_435_456 {
+        3
+    } else {
+        4
+    }
+}
+
+// How many bytes a number takes.
+pub fn size(n: u32) -> usize
+    ensures { λ r. ⌜ (r ≡ length (writing n)) × (r ≤ 5) ⌝ }
+{
+    1 + later_groups(n)
+}
+
+// Writes a number from a place on, and answers the place after it.
+fn put(bytes: &mut [u8], at: usize, n: u32) -> usize
+    requires { ⌜ at + length (writing n) ≤ length (now bytes) ⌝ }
+    ensures written { λ r. ⌜ Written (now (bytes .entry)) at n r (now (bytes .exit)) ⌝ }
+    ensures back { λ r. ⌜ ReadBack (now (bytes .exit)) at n r ⌝ }
+{
+    if n < 128 {
+        bytes[at] = n as u8;
+        at + 1
+    } else {
+        let last = put(bytes, at, n / 128);
+        bytes[last] = (128 + n % 128) as u8;
+        last + 1
+    }
+}
+
+// Writes a number from a place on, and answers the place after it; where it does not fit, nothing is written.
+pub fn write(bytes: &mut [u8], at: usize, n: u32) -> Result<usize, NoRoom>
+    ensures answer { λ r. ⌜ Wrote (now (bytes .entry)) at n r (now (bytes .exit)) ⌝ }
+    ensures back { λ r. ⌜ made r (λ end. ReadBack (now (bytes .exit)) at n end) ⌝ }
+{
+    let room = bytes.len();
+    if at > room || room - at < size(n) {
+        return Err(NoRoom);
+    }
+    Ok(put(bytes, at, n))
+}
