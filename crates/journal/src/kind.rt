@@ -1,5 +1,7 @@
 // The kinds of entries and their numbers.
 ghost use mathlib.Core.Path.{_≡_};
+ghost use Rattle.std.specs.Options.{Cases as BySome};
+ghost use Rattle.std.specs.declared.option.Option.the-variants.{Some};
 ghost use Rattle.journal.specs.Kinds.{kindNumber, kindOf};
 
 // What an entry records.
@@ -19,14 +21,16 @@ pub enum Kind {
 impl Kind {
     // The number that stands for the kind in bytes.
     pub fn number(self) -> u32
-        ensures { λ r. ⌜ r ≡ kindNumber self ⌝ }
+        ensures answer { λ r. ⌜ r ≡ kindNumber self ⌝ }
+        ensures back { λ r. ⌜ kindOf r ≡ Some self ⌝ }
     {
         self as u32
     }
 
     // The kind of that number, if there is one.
     pub fn of_number(number: u32) -> Option<Kind>
-        ensures { λ r. ⌜ r ≡ kindOf number ⌝ }
+        ensures answer { λ r. ⌜ r ≡ kindOf number ⌝ }
+        ensures back { λ r. ⌜ BySome r (Unit {0}) (λ kind. kindNumber kind ≡ number) ⌝ }
     {
         match number {
             1 => Some(Kind::Run),

@@ -1,6 +1,7 @@
 // Why a journal cannot be laid.
 ghost use mathlib.Core.Path.{_≡_};
-ghost use Rattle.journal.specs.Refusals.{told};
+ghost use Rattle.journal.specs.Refusals.{told, raised};
+use varint::number::Fault;
 
 #[derive(Clone, Copy, PartialEq, Eq, Debug)]
 pub enum LayRefusal {
@@ -24,6 +25,18 @@ impl LayRefusal {
             LayRefusal::MissingNumber(place) => (14, place),
             LayRefusal::UsedBeyondEnd(place) => (14, place),
             LayRefusal::EntryBeneath => (14, 0),
+        }
+    }
+}
+
+// A fault of a number in a journal's bytes; its place is kept.
+pub impl From<Fault> for LayRefusal as LayRefusalFromFault {
+    ghost converts = { λ fault r. r ≡ raised fault };
+
+    fn from(fault: Fault) -> LayRefusal {
+        match fault {
+            Fault::Malformed(place) => LayRefusal::WrongNumber(place),
+            Fault::Ended(place) => LayRefusal::MissingNumber(place),
         }
     }
 }

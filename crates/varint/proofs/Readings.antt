@@ -16,7 +16,7 @@ use Rattle.varint.specs.declared.number.Fault.{Fault}
 use Rattle.varint.specs.declared.number.Fault.the-variants.{Malformed, Ended}
 use Rattle.varint.specs.declared.number.Reading.{Reading}
 use Rattle.varint.specs.Writings.{writing}
-use Rattle.varint.specs.Readings.{laterGroups, valueAfter, sameBytes, readingOf, judged, scannedIn, scanned, onlyShortest, numberAt, Own}
+use Rattle.varint.specs.Readings.{laterGroups, valueAfter, sameBytes, readingOf, judged, scannedIn, scanned, onlyShortest, numberAt, Ends, Own}
 use Rattle.varint.proofs.Writings.{writing-small, writing-step, writing-more, size-most}
 
 -- later groups at the front, and what follows them
@@ -46,6 +46,13 @@ later-short [] = omega arith
 later-short (b ∷ bs) =
     elim (ltb b 128) as (λ t. length (cond t [] (b ∷ laterGroups bs)) ≤ length (b ∷ bs))
     [ true ↦ omega arith | false ↦ omega (arith, later-short bs) ]
+
+later-ended : (bs : List ℕ) → Ends (drop (length (laterGroups bs)) bs)
+unfolding laterGroups
+later-ended [] = tt
+later-ended (b ∷ bs) =
+  elim (ltb b 128) as (λ t. ltb b 128 ≡ t → Ends (drop (length (cond t [] (b ∷ laterGroups bs))) (b ∷ bs)))
+  [ true ↦ λ e. ltb-true b 128 e | false ↦ λ e. later-ended bs ] refl
 
 pub value-above : (v : ℕ) (bs : List ℕ) → v ≤ valueAfter v bs
 unfolding valueAfter
@@ -92,14 +99,15 @@ own-judged : (bs : List ℕ) (at first v end : ℕ) (later : List ℕ) → at < 
 own-judged bs at first v end later h f l e u d s =
     let w : writing v ≡ first ∷ later = same-is (writing v) (first ∷ later) s in
     let k : at + 1 + length later ≡ end = omega arith in
-    let front : drop (at + 1) bs ≡ later ++ drop end bs =
-    later-front (drop (at + 1) bs) ∙ (λ i. sym l i ++ drop (length (sym l i)) (drop (at + 1) bs))
-    ∙ ap (λ t. later ++ t) (drop-drop (length later) (at + 1) bs ∙ ap (λ m. drop m bs) k) in
+    let rest : drop (length (laterGroups (drop (at + 1) bs))) (drop (at + 1) bs) ≡ drop end bs =
+    ap (λ t. drop (length t) (drop (at + 1) bs)) (sym l) ∙ drop-drop (length later) (at + 1) bs ∙ ap (λ m. drop m bs) k in
+    let front : drop (at + 1) bs ≡ later ++ drop end bs = later-front (drop (at + 1) bs) ∙ (λ i. sym l i ++ rest i) in
     record {
       forward = omega arith;
       within = omega (arith, later-short (drop (at + 1) bs), length-drop (at + 1) bs, ap length l);
       sized = omega arith;
       bytes = drop-more bs at 0 h ∙ (λ i. sym f i ∷ front i) ∙ ap (λ t. t ++ drop end bs) (sym w);
+      ended = subst Ends rest (later-ended (drop (at + 1) bs));
     }
 
 own-tested : (bs : List ℕ) (at : ℕ) (n : Reading) → at < length bs → judged at (getD bs at 0) (laterGroups (drop (at + 1) bs)) ≡ Ok n → n .shortest ≡ true → Own bs at (n .value) (n .end)
@@ -160,11 +168,6 @@ shortest-own bs at first v end h f d e =
     let both : writing v ++ drop end bs ≡ (first ∷ later) ++ drop end bs = sym e ∙ drop-more bs at 0 h ∙ (λ i. sym f i ∷ front i) in
     let w : writing v ≡ first ∷ later = append-cancel-right (writing v) (first ∷ later) (drop end bs) both in
     ap (λ t. sameBytes t (first ∷ later)) w ∙ is-same (first ∷ later)
-
--- bytes after which a number ends: none, or a first byte
-abbrev pub Ends : List ℕ → Type 0
-Ends [] = Unit {0}
-Ends (b ∷ bs) = b < 128
 
 abbrev Later : List ℕ → Type 0
 Later [] = Unit {0}
@@ -306,3 +309,20 @@ scanning-ends bs at end value shortest s f stop yes· no· =
     ∙ judged-right at first later f (omega (arith, s .few)) (omega (arith, v, s .sized))
     ∙ (λ i. Ok (record { value = v i; end = k i; shortest = sameBytes (writing (v i)) (first ∷ later) }))
     ∙ ap (λ t. Ok (record { value = value; end = end; shortest = t })) flag
+
+-- what is read is a writing
+own-shortest : (bs : List ℕ) (at : ℕ) (r : Result Reading Fault) (v end : ℕ) → scanned bs at ≡ r → onlyShortest at r ≡ Ok (v, end) → Own bs at v end
+own-shortest bs at (Ok n) v end e h =
+  elim (n .shortest) as (λ t. n .shortest ≡ t → cond {A = Result (ℕ × ℕ) Fault} t (Ok (n .value, n .end)) (Err (Malformed at)) ≡ Ok (v, end) → Own bs at v end)
+  [ true ↦ λ s p.
+      let q : _≡_ {A = ℕ × ℕ} (n .value, n .end) (v, end) = cc in
+      subst (λ x. Own bs at (x .0) (x .1)) q (own-scanned bs at n e s)
+  | false ↦ λ s p. let z : _≡_ {A = ℕ} 0 1 = cc in absurd (omega arith) ] refl h
+own-shortest bs at (Err fault) v end e p = let z : _≡_ {A = ℕ} 0 1 = cc in absurd (omega arith)
+
+pub own-number : (bs : List ℕ) (at v end : ℕ) → numberAt bs at ≡ Ok (v, end) → Own bs at v end
+own-number bs at v end e = own-shortest bs at (scanned bs at) v end refl e
+
+-- a writing begins with a first byte
+pub ends-before-writing : (n : ℕ) (xs : List ℕ) → Ends (writing n ++ xs)
+ends-before-writing n xs = let p = shape n in subst (λ t. Ends (t ++ xs)) (sym (p .is)) (p .small)

@@ -56,9 +56,15 @@ onlyShortest at (Err fault) = Err fault
 abbrev pub numberAt : List ℕ → ℕ → Result (ℕ × ℕ) Fault
 numberAt bs at = onlyShortest at (scanned bs at)
 
--- what stands from the place `at` to the place `end` is the one writing of v
+-- a number ends before these bytes: there are none, or a first byte comes
+abbrev pub Ends : List ℕ → Type 0
+Ends [] = Unit {0}
+Ends (b ∷ bs) = b < 128
+
+-- what stands from the place `at` to the place `end` is the one writing of v, and it ends there
 pub record Own (bs : List ℕ) (at v end : ℕ) : Type 0 where
   pub forward : at < end
   pub within : end ≤ length bs
   pub sized : v < 4294967296
   pub bytes : drop at bs ≡ writing v ++ drop end bs
+  pub ended : Ends (drop end bs)
