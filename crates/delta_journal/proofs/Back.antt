@@ -32,13 +32,13 @@ newest-original-has-kept-number : (ds : List Entry) (kept : ℤ) → SFits w32 k
 newest-original-has-kept-number [] kept f = refl
 newest-original-has-kept-number (d ∷ ds) kept f = wrapped-fits w32 kept f
 
-difference-stands-on-differences : (ds : List Entry) (kept : ℤ) (d e : Entry) → SFits w32 kept → d .owner ≡ e .owner → d .kind ≡ e .kind → d .number ≡ wrapped w32 (e .number -ℤ kept) → differences (baseOf kept ds) (originals kept ds) ≡ ds → differences (baseOf kept ds) (e ∷ originals kept ds) ≡ d ∷ ds
+pub difference-stands-on-differences : (ds : List Entry) (kept : ℤ) (d e : Entry) → SFits w32 kept → d .owner ≡ e .owner → d .kind ≡ e .kind → d .number ≡ wrapped w32 (e .number -ℤ kept) → differences (baseOf kept ds) (originals kept ds) ≡ ds → differences (baseOf kept ds) (e ∷ originals kept ds) ≡ d ∷ ds
 difference-stands-on-differences ds kept d e f p q r back =
     let same : renumbered e (e .number -ℤ newestNumber (baseOf kept ds) (originals kept ds)) ≡ d =
     same-entry _ d (sym p) (sym q) (ap (λ n. wrapped w32 (e .number -ℤ n)) (newest-original-has-kept-number ds kept f) ∙ sym r) in
     λ i. same i ∷ back i
 
-differences-of-originals : (ds : List Entry) (kept : ℤ) → SFits w32 kept → differences (baseOf kept ds) (originals kept ds) ≡ ds
+pub differences-of-originals : (ds : List Entry) (kept : ℤ) → SFits w32 kept → differences (baseOf kept ds) (originals kept ds) ≡ ds
 differences-of-originals [] kept f = refl
 differences-of-originals (d ∷ ds) kept f =
     let before : ℤ = wrapped w32 (kept -ℤ d .number) in
@@ -46,9 +46,6 @@ differences-of-originals (d ∷ ds) kept f =
     let r : d .number ≡ wrapped w32 (wrapped w32 kept -ℤ before) =
     sym (ap (λ n. wrapped w32 (n -ℤ before)) (wrapped-fits w32 kept f) ∙ number-less-difference-is-number-before kept (d .number) (number-fits d)) in
     difference-stands-on-differences ds before d (renumbered d kept) g refl refl r (differences-of-originals ds before g)
-
-pub differences-with-one-more : (ds : List Entry) (kept : ℤ) (d e : Entry) → SFits w32 kept → d .owner ≡ e .owner → d .kind ≡ e .kind → d .number ≡ wrapped w32 (e .number -ℤ kept) → differences (baseOf kept ds) (e ∷ originals kept ds) ≡ d ∷ ds
-differences-with-one-more ds kept d e f p q r = difference-stands-on-differences ds kept d e f p q r (differences-of-originals ds kept f)
 
 pub numbers-come-back : NumbersComeBack
 numbers-come-back = ((λ l. originals-of-differences l (pos 0) (record { sfits = lit< tt })), (λ kept ds f. differences-of-originals ds kept f))

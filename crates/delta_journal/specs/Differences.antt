@@ -5,8 +5,6 @@ use mathlib.Core.List.{List, [], _∷_}
 use lib.IntN.{ℤ, pos, _-ℤ_}
 use mir.Syntax.{w32}
 use mir.Val.{SFits}
-use Rattle.std.specs.declared.option.Option.{Option}
-use Rattle.std.specs.declared.option.Option.the-variants.{Some, None}
 use Rattle.std.specs.shelf.Signed.{wrapped}
 use Rattle.std.proofs.shelf.Signed.{sfits-wrapped}
 use Rattle.journal.specs.declared.entry.Entry.{Entry}
@@ -44,8 +42,3 @@ abbrev pub NumbersComeBack : Type 0
 NumbersComeBack =
     ((l : List Entry) → originals (newestNumber (pos 0) l) (differences (pos 0) l) ≡ l)
     × ((kept : ℤ) (ds : List Entry) → SFits w32 kept → differences (baseOf kept ds) (originals kept ds) ≡ ds)
-
--- the newest entry taken from a list, if there is one, leaves older
-abbrev pub Taken : List Entry → Option Entry → List Entry → Type 0
-Taken l None older = (l ≡ []) × (older ≡ [])
-Taken l (Some e) older = l ≡ e ∷ older

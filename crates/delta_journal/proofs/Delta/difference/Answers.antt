@@ -7,7 +7,7 @@ use borrow.Author.Needs.{needs}
 use Rattle.std.specs.shelf.Signed.{wrapped}
 use Rattle.std.proofs.shelf.Signed.{wrapped-fits, wrapping-sub-is}
 use Rattle.journal.proofs.Entries.{same-entry, number-fits}
-use Rattle.delta_journal.proofs.Back.{number-less-difference-is-number-before, differences-with-one-more}
+use Rattle.delta_journal.proofs.Back.{number-less-difference-is-number-before, difference-stands-on-differences, differences-of-originals}
 use Rattle.delta_journal.proofs.Delta.difference.Needs as need
 
 pub returns : need.returns
@@ -19,5 +19,5 @@ returns g c =
     record {
       entry-back = same-entry _ e refl refl (wrapped-fits w32 (e .number) (number-fits e));
       kept-back = ap (λ n. wrapped w32 (e .number -ℤ n)) r ∙ number-less-difference-is-number-before (e .number) kept f;
-      list = differences-with-one-more _ kept _ e f refl refl r;
+      list = difference-stands-on-differences _ kept _ e f refl refl r (differences-of-originals _ kept f);
     }
