@@ -84,13 +84,6 @@ judged-accepted meaning at (Err f) p e = let z : _≡_ {A = ℕ} 0 1 = cc in abs
 part-accepted : {X : Type 0} (meaning : ℕ → Option X) (bs : List ℕ) (at : ℕ) (p : X × ℕ) → partAt meaning bs at ≡ Ok p → (v : ℕ) × Own bs at v (p .1) × (meaning v ≡ Some (p .0))
 part-accepted meaning bs at p e = let s = judged-accepted meaning at (numberAt bs at) p e in (s .0, own-number bs at (s .0) (p .1) (s .1), s .2)
 
--- from the place `at` to the place `end` stand the bytes of an entry, and a number ends after them
-pub record OwnEntry (bs : List ℕ) (at : ℕ) (e : Entry) (end : ℕ) : Type 0 where
-  pub forward : at < end
-  pub within : end ≤ length bs
-  pub bytes : drop at bs ≡ entryBytes e ++ drop end bs
-  pub ended : Ends (drop end bs)
-
 owner-accepted : (v o : ℕ) → ownerOf v ≡ Some o → (v ≡ o) × (o ≤ 32767)
 owner-accepted v o =
     elim (leb v 32767) as (λ t. leb v 32767 ≡ t → cond t (Some v) None ≡ Some o → (v ≡ o) × (o ≤ 32767)) [
@@ -98,10 +91,16 @@ owner-accepted v o =
       | false ↦ λ e h. let z : _≡_ {A = ℕ} 0 1 = cc in absurd (omega arith)
     ] refl
 
--- an entry that is read has its own bytes
-pub own-entry : (bs : List ℕ) (at : ℕ) (p : Placed) → entryAt bs at ≡ Ok p → OwnEntry bs at (p .entry) (p .end)
-unfolding entryBytes
-own-entry bs at p e =
+-- an entry from the place `at` to the place `end`, number by number
+pub record Parts (bs : List ℕ) (at : ℕ) (e : Entry) (end : ℕ) : Type 0 where
+  pub kindPlace : ℕ
+  pub numberPlace : ℕ
+  pub owner : Own bs at (e .owner) kindPlace
+  pub kind : Own bs kindPlace (kindNumber (e .kind)) numberPlace
+  pub number : Own bs numberPlace (folded (e .number)) end
+
+pub parts-read : (bs : List ℕ) (at : ℕ) (p : Placed) → entryAt bs at ≡ Ok p → Parts bs at (p .entry) (p .end)
+parts-read bs at p e =
     let first = then-accepted (partAt ownerOf bs at) _ p e in
     let o = first .0 in
     let second = then-accepted (partAt kindOf bs (o .1)) _ p (first .2) in
@@ -118,12 +117,25 @@ own-entry bs at p e =
     let un : unfolded (c .0) ≡ n .0 = let h = c .2 in cc in
     let vn : c .0 ≡ folded (wrapped w32 (n .0)) =
     sym (ap folded (ap (wrapped w32) (sym un) ∙ wrapped-fits w32 (unfolded (c .0)) (unfolded-fits (c .0) (c .1 .sized))) ∙ folded-unfolded (c .0)) in
-    let joined : drop at bs ≡ (writing (a .0) ++ (writing (b .0) ++ writing (c .0))) ++ drop (n .1) bs =
-    a .1 .bytes ∙ ap (λ t. writing (a .0) ++ t) (b .1 .bytes ∙ ap (λ t. writing (b .0) ++ t) (c .1 .bytes)) ∙ sym (simp append-assoc) in
-    let here : OwnEntry bs at (entryOf (o .0) (k .0) (n .0)) (n .1) = record {
-      forward = omega (arith, a .1 .forward, b .1 .forward, c .1 .forward);
-      within = c .1 .within;
-      bytes = joined ∙ (λ i. (writing (vo i) ++ (writing (vk i) ++ writing (vn i))) ++ drop (n .1) bs);
-      ended = c .1 .ended;
+    let here : Parts bs at (entryOf (o .0) (k .0) (n .0)) (n .1) = record {
+      kindPlace = o .1;
+      numberPlace = k .1;
+      owner = subst (λ v. Own bs at v (o .1)) vo (a .1);
+      kind = subst (λ v. Own bs (o .1) v (k .1)) vk (b .1);
+      number = subst (λ v. Own bs (k .1) v (n .1)) vn (c .1);
     } in
-    subst (λ x. OwnEntry bs at (x .entry) (x .end)) same here
+    subst (λ x. Parts bs at (x .entry) (x .end)) same here
+
+-- what is read as an entry are its bytes
+pub bytes-read : (bs : List ℕ) (at : ℕ) (p : Placed) → entryAt bs at ≡ Ok p → drop at bs ≡ entryBytes (p .entry) ++ drop (p .end) bs
+unfolding entryBytes
+bytes-read bs at p e =
+    let parts = parts-read bs at p e in
+    let o : List ℕ = writing (p .entry .owner) in
+    let k : List ℕ = writing (kindNumber (p .entry .kind)) in
+    parts .owner .bytes ∙ ap (λ t. o ++ t) (parts .kind .bytes ∙ ap (λ t. k ++ t) (parts .number .bytes)) ∙ sym (simp append-assoc)
+
+pub forward-read : (bs : List ℕ) (at : ℕ) (p : Placed) → entryAt bs at ≡ Ok p → (at < p .end) × (p .end ≤ length bs)
+forward-read bs at p e =
+    let parts = parts-read bs at p e in
+    (omega (arith, parts .owner .forward, parts .kind .forward, parts .number .forward), parts .number .within)

@@ -8,7 +8,7 @@ use native.Mathlib.Omega.{arith}
 use native.Mathlib.Numerals.{add-one}
 use lib.Dec.{ltb, leb, eqb}
 use lib.ListN.{length, getD, take, drop}
-use Rattle.std.proofs.shelf.Lists.{drop-more, drop-all, drop-drop, drop-at, append-nil, append-cancel-right, length-append, length-drop, length-push, length-take-le, take-at, take-append-drop}
+use Rattle.std.proofs.shelf.Lists.{getD-drop, getD-append-left, drop-more, drop-all, drop-drop, drop-at, append-nil, append-cancel-right, length-append, length-drop, length-push, length-take-le, take-at, take-append-drop}
 use Rattle.std.proofs.shelf.Tests.{ltb-true, ltb-false, lt-ltb, le-ltb, le-leb, lt-leb, leb-true, eqb-true, eq-eqb, and-parts, and-from, and-left, and-right, cases-lt, both-ways}
 use Rattle.std.specs.declared.result.Result.{Result}
 use Rattle.std.specs.declared.result.Result.the-variants.{Ok, Err}
@@ -51,8 +51,8 @@ later-ended : (bs : List ℕ) → Ends (drop (length (laterGroups bs)) bs)
 unfolding laterGroups
 later-ended [] = tt
 later-ended (b ∷ bs) =
-  elim (ltb b 128) as (λ t. ltb b 128 ≡ t → Ends (drop (length (cond t [] (b ∷ laterGroups bs))) (b ∷ bs)))
-  [ true ↦ λ e. ltb-true b 128 e | false ↦ λ e. later-ended bs ] refl
+    elim (ltb b 128) as (λ t. ltb b 128 ≡ t → Ends (drop (length (cond t [] (b ∷ laterGroups bs))) (b ∷ bs)))
+    [ true ↦ λ e. ltb-true b 128 e | false ↦ λ e. later-ended bs ] refl
 
 pub value-above : (v : ℕ) (bs : List ℕ) → v ≤ valueAfter v bs
 unfolding valueAfter
@@ -313,11 +313,12 @@ scanning-ends bs at end value shortest s f stop yes· no· =
 -- what is read is a writing
 own-shortest : (bs : List ℕ) (at : ℕ) (r : Result Reading Fault) (v end : ℕ) → scanned bs at ≡ r → onlyShortest at r ≡ Ok (v, end) → Own bs at v end
 own-shortest bs at (Ok n) v end e h =
-  elim (n .shortest) as (λ t. n .shortest ≡ t → cond {A = Result (ℕ × ℕ) Fault} t (Ok (n .value, n .end)) (Err (Malformed at)) ≡ Ok (v, end) → Own bs at v end)
-  [ true ↦ λ s p.
-      let q : _≡_ {A = ℕ × ℕ} (n .value, n .end) (v, end) = cc in
-      subst (λ x. Own bs at (x .0) (x .1)) q (own-scanned bs at n e s)
-  | false ↦ λ s p. let z : _≡_ {A = ℕ} 0 1 = cc in absurd (omega arith) ] refl h
+    elim (n .shortest) as (λ t. n .shortest ≡ t → cond {A = Result (ℕ × ℕ) Fault} t (Ok (n .value, n .end)) (Err (Malformed at)) ≡ Ok (v, end) → Own bs at v end) [
+      | true ↦ λ s p.
+          let q : _≡_ {A = ℕ × ℕ} (n .value, n .end) (v, end) = cc in
+          subst (λ x. Own bs at (x .0) (x .1)) q (own-scanned bs at n e s)
+      | false ↦ λ s p. let z : _≡_ {A = ℕ} 0 1 = cc in absurd (omega arith)
+    ] refl h
 own-shortest bs at (Err fault) v end e p = let z : _≡_ {A = ℕ} 0 1 = cc in absurd (omega arith)
 
 pub own-number : (bs : List ℕ) (at v end : ℕ) → numberAt bs at ≡ Ok (v, end) → Own bs at v end
@@ -326,3 +327,36 @@ own-number bs at v end e = own-shortest bs at (scanned bs at) v end refl e
 -- a writing begins with a first byte
 pub ends-before-writing : (n : ℕ) (xs : List ℕ) → Ends (writing n ++ xs)
 ends-before-writing n xs = let p = shape n in subst (λ t. Ends (t ++ xs)) (sym (p .is)) (p .small)
+
+-- the bytes of a number that was read: a first byte, later groups, and then the end or another first byte
+later-at : (bs : List ℕ) (j : ℕ) → Later bs → j < length bs → 128 ≤ getD bs j 0
+later-at [] j h l = absurd (omega arith)
+later-at (b ∷ bs) zero h l = h .0
+later-at (b ∷ bs) (suc j) h l = later-at bs j (h .1) (omega arith)
+
+pub own-length : (bs : List ℕ) (at v end : ℕ) → Own bs at v end → end ≡ at + length (writing v)
+own-length bs at v end o =
+    omega (arith, o .forward, o .within, ap length (o .bytes) ∙ length-append (writing v) (drop end bs), length-drop at bs, length-drop end bs)
+
+pub own-first : (bs : List ℕ) (at v end : ℕ) → Own bs at v end → getD bs at 0 < 128
+own-first bs at v end o =
+    let p = shape v in
+    let h : at < length bs = omega (arith, o .forward, o .within) in
+    let e : getD bs at 0 ∷ drop (at + 1) bs ≡ p .first ∷ (p .later ++ drop end bs) = sym (drop-more bs at 0 h) ∙ o .bytes ∙ ap (λ t. t ++ drop end bs) (p .is) in
+    let q : getD bs at 0 ≡ p .first = cc in
+    omega (arith, p .small)
+
+pub own-later : (bs : List ℕ) (at v end i : ℕ) → Own bs at v end → at < i → i < end → 128 ≤ getD bs i 0
+own-later bs at v end i o l u =
+    let p = shape v in
+    let j : ℕ = i - at - 1 in
+    let k : at + suc (i - at - 1) ≡ i = omega arith in
+    let short : i - at - 1 < length (p .later) = omega (arith, own-length bs at v end o, ap length (p .is)) in
+    let e : getD bs i 0 ≡ getD (p .later) (i - at - 1) 0 =
+    ap (λ n. getD bs n 0) (sym k) ∙ sym (getD-drop at bs (suc (i - at - 1)) 0)
+    ∙ ap (λ t. getD t (suc (i - at - 1)) 0) (o .bytes ∙ ap (λ t. t ++ drop end bs) (p .is))
+    ∙ getD-append-left (p .later) (drop end bs) 0 (i - at - 1) short in
+    omega (arith, later-at (p .later) (i - at - 1) (p .groups) short)
+
+pub own-next : (bs : List ℕ) (at v end : ℕ) → Own bs at v end → end < length bs → getD bs end 0 < 128
+own-next bs at v end o h = subst Ends (drop-more bs end 0 h) (o .ended)

@@ -1,0 +1,4 @@
+pub mod Lasts
+pub mod Packs
+pub mod Layings
+pub mod Changes

@@ -1,0 +1,120 @@
+// A journal in lent bytes, the oldest entry first.
+ghost use mathlib.Core.Path.{_≡_};
+ghost use denote.Ref.{now};
+ghost use Rattle.std.specs.Results.{Cases};
+ghost use Rattle.journal.specs.Meaning.{pushAnswer, pushed, newestOf, olderOf};
+ghost use Rattle.packed_journal.specs.Packing.{shown, room};
+ghost use Rattle.packed_journal.specs.Laying.{LaidOn, YieldEachOtherBack, OneWriting};
+ghost use Rattle.packed_journal.specs.Calls.{LastOf, Appended, written};
+use entry_codec::write_entry;
+use journal::entry::Entry;
+use journal::journal::Full;
+use journal::journal::Journal;
+use journal::refusal::LayRefusal;
+use last::Last;
+use last::last_entry;
+use laying::read_through;
+
+mod last;
+mod laying;
+
+// Entries in lent bytes, of which the first `used` hold them.
+#[derive(Drop)]
+pub struct PackedJournal<'a> {
+    bytes: &'a mut [u8],
+    used: usize,
+}
+
+// Whether a journal can be laid on bytes of which the first `used` hold entries already.
+pub fn ask(bytes: &[u8], used: usize) -> Result<(), LayRefusal>
+    ensures answer { λ r. ⌜ LaidOn (now (bytes .entry)) used r ⌝ }
+    ensures back { λ _. ⌜ YieldEachOtherBack ⌝ }
+    ensures unique { λ _. ⌜ OneWriting ⌝ }
+{
+    if used > bytes.len() {
+        return Err(LayRefusal::UsedBeyondEnd(bytes.len()));
+    }
+    let held = &bytes[0..used];
+    read_through(held)
+}
+
+impl<'a> PackedJournal<'a> {
+    // The journal on bytes of which the first `used` hold entries already.
+    pub fn lay(bytes: &'a mut [u8], used: usize) -> Result<PackedJournal<'a>, LayRefusal>
+        ensures answer { λ r. ⌜ LaidOn (now (bytes .entry)) used r ⌝ }
+        ensures bytes { λ r. ⌜ Cases r (λ j. (j .used ≡ used) × (now (j .bytes) ≡ now (bytes .entry))) (λ _. Unit {0}) ⌝ }
+        ensures back { λ _. ⌜ YieldEachOtherBack ⌝ }
+        ensures unique { λ _. ⌜ OneWriting ⌝ }
+    {
+        match ask(bytes, used) {
+            Ok(()) => Ok(PackedJournal { bytes, used }),
+            Err(refusal) => Err(refusal),
+        }
+    }
+
+    fn last(&self) -> Option<Last>
+        ensures { λ r. ⌜ LastOf (now (now (self .entry) .bytes)) (now (self .entry) .used) r ⌝ }
+    {
+        let used = self.used.min(self.bytes.len());
+        let held = &self.bytes[0..used];
+        last_entry(held)
+    }
+}
+
+// Writes an entry behind the used bytes, and answers how many are used then.
+fn append(bytes: &mut [u8], used: usize, entry: Entry) -> Result<usize, Full>
+    ensures { λ r. ⌜ Appended (now (bytes .entry)) used entry r (now (bytes .exit)) ⌝ }
+{
+    let at = used.min(bytes.len());
+    match write_entry(bytes, at, entry) {
+        Ok(end) => Ok(end),
+        Err(_) => Err(Full),
+    }
+}
+
+pub impl<'a> Journal for PackedJournal<'a> as PackedJournalJournal {
+    ghost entries = { λ s. shown (s .used) (now (s .bytes)) };
+
+    ghost fits = { λ s. room (s .used) (now (s .bytes)) };
+
+    // As the trait has it; and only the bytes of the entry are written.
+    fn push(&mut self, entry: Entry) -> Result<(), Full>
+        ensures answer { λ r. ⌜ r ≡ pushAnswer (room (now (self .entry) .used) (now (now (self .entry) .bytes))) (shown (now (self .entry) .used) (now (now (self .entry) .bytes))) entry ⌝ }
+        ensures list { λ _. ⌜ shown (now (self .exit) .used) (now (now (self .exit) .bytes)) ≡ pushed (room (now (self .entry) .used) (now (now (self .entry) .bytes))) (shown (now (self .entry) .used) (now (now (self .entry) .bytes))) entry ⌝ }
+        ensures rule { λ _. ⌜ room (now (self .exit) .used) (now (now (self .exit) .bytes)) ≡ room (now (self .entry) .used) (now (now (self .entry) .bytes)) ⌝ }
+        ensures full { λ r. ⌜ Cases r (λ _. Unit {0}) (λ _. now (self .exit) ≡ now (self .entry)) ⌝ }
+        ensures bytes { λ r. ⌜ Cases r (λ _. now (now (self .exit) .bytes) ≡ written (now (now (self .entry) .bytes)) (now (self .entry) .used) entry) (λ _. Unit {0}) ⌝ }
+    {
+        let used = self.used;
+        match append(self.bytes, used, entry) {
+            Ok(end) => {
+                self.used = end;
+                Ok(())
+            }
+            Err(full) => Err(full),
+        }
+    }
+
+    fn newest(&self) -> Option<Entry> {
+        match self.last() {
+            Some(last) => Some(last.entry),
+            None => None,
+        }
+    }
+
+    // As the trait has it; and the bytes keep their contents.
+    fn pop(&mut self) -> Option<Entry>
+        ensures answer { λ r. ⌜ r ≡ newestOf (shown (now (self .entry) .used) (now (now (self .entry) .bytes))) ⌝ }
+        ensures list { λ _. ⌜ shown (now (self .exit) .used) (now (now (self .exit) .bytes)) ≡ olderOf (shown (now (self .entry) .used) (now (now (self .entry) .bytes))) ⌝ }
+        ensures rule { λ _. ⌜ room (now (self .exit) .used) (now (now (self .exit) .bytes)) ≡ room (now (self .entry) .used) (now (now (self .entry) .bytes)) ⌝ }
+        ensures bytes { λ _. ⌜ now (now (self .exit) .bytes) ≡ now (now (self .entry) .bytes) ⌝ }
+    {
+        match self.last() {
+            Some(last) => {
+                self.used = last.start;
+                Some(last.entry)
+            }
+            None => None,
+        }
+    }
+}
