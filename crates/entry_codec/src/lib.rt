@@ -18,6 +18,8 @@ use varint::number::write;
 use varint::zigzag::fold;
 use varint::zigzag::unfold;
 
+pub mod examples;
+
 const MOST_OWNER: u32 = 32_767;
 
 // An entry that was read, and the place after it.

@@ -17,6 +17,7 @@ use Rattle.varint.specs.Readings.{Own}
 use Rattle.varint.proofs.Readings.{own-first, own-later, own-next}
 use Rattle.varint.specs.Zigzag.{folded}
 use Rattle.journal.specs.Kinds.{kindNumber}
+use Rattle.journal.specs.declared.entry.Entry.{Entry}
 use Rattle.journal.specs.declared.refusal.LayRefusal.{LayRefusal}
 use Rattle.entry_codec.specs.declared.Placed.{Placed}
 use Rattle.entry_codec.specs.Reading.{entryAt}
@@ -114,6 +115,14 @@ pub record LastRead (bs : List ℕ) (l : Last) : Type 0 where
   pub entry : placed .entry ≡ l .entry
   pub end : placed .end ≡ length bs
 
+-- three numbers in a row, read as an entry, reach the end
+ends-at-end : (bs : List ℕ) (start kind number end : ℕ) (e : Entry) → Parts bs start e end → Begins bs start kind → Begins bs kind number → Begins bs number (length bs) → end ≡ length bs
+ends-at-end bs start kind number end e parts owner· kind· number· =
+    let k : parts .kindPlace ≡ kind = ends-at-next bs start (e .owner) (parts .kindPlace) kind (parts .owner) owner· (omega (arith, number· .before, kind· .before)) (λ _. kind· .first) in
+    let n : parts .numberPlace ≡ number =
+    ends-at-next bs kind (kindNumber (e .kind)) (parts .numberPlace) number (subst (λ m. Own bs m (kindNumber (e .kind)) (parts .numberPlace)) k (parts .kind)) kind· (omega (arith, number· .before)) (λ _. number· .first) in
+    ends-at-next bs number (folded (e .number)) end (length bs) (subst (λ m. Own bs m (folded (e .number)) end) n (parts .number)) number· (omega arith) (λ h. absurd (omega arith))
+
 pub last-is-read : (bs : List ℕ) (l : Last) → lastEntry bs ≡ Some l → LastRead bs l
 unfolding lastEntry
 last-is-read bs l e =
@@ -121,21 +130,12 @@ last-is-read bs l e =
     let two = found (lastStart bs (one .0)) _ l (one .2) in
     let three = found (lastStart bs (two .0)) _ l (two .2) in
     let last = from-found (three .0) (entryAt bs (three .0)) l (three .2) in
-    let p = last .0 in
-    let parts = parts-read bs (three .0) p (last .1) in
-    let number : Begins bs (one .0) (length bs) = start-begins bs (length bs) (one .0) (one .1) in
-    let kind : Begins bs (two .0) (one .0) = start-begins bs (one .0) (two .0) (two .1) in
-    let owner : Begins bs (three .0) (two .0) = start-begins bs (two .0) (three .0) (three .1) in
-    let k : parts .kindPlace ≡ two .0 = ends-at-next bs (three .0) _ (parts .kindPlace) (two .0) (parts .owner) owner (omega (arith, number .before, kind .before)) (λ _. kind .first) in
-    let n : parts .numberPlace ≡ one .0 =
-    ends-at-next bs (two .0) _ (parts .numberPlace) (one .0) (subst (λ m. Own bs m (kindNumber (p .entry .kind)) (parts .numberPlace)) k (parts .kind)) kind (omega (arith, number .before)) (λ _. number .first) in
-    let z : p .end ≡ length bs =
-    ends-at-next bs (one .0) _ (p .end) (length bs) (subst (λ m. Own bs m (folded (p .entry .number)) (p .end)) n (parts .number)) number (omega arith) (λ h. absurd (omega arith)) in
     record {
-      placed = p;
+      placed = last .0;
       read = ap (entryAt bs) (sym (ap (λ x. x .start) (last .2))) ∙ last .1;
       entry = ap (λ x. x .entry) (last .2);
-      end = z;
+      end = ends-at-end bs (three .0) (two .0) (one .0) (last .0 .end) (last .0 .entry) (parts-read bs (three .0) (last .0) (last .1))
+          (start-begins bs (two .0) (three .0) (three .1)) (start-begins bs (one .0) (two .0) (two .1)) (start-begins bs (length bs) (one .0) (one .1));
     }
 
 -- so the bytes are those before it and its own
