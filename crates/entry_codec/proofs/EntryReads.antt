@@ -1,6 +1,6 @@
 -- What is read is what was written.
 use mathlib.Core.Path.{_≡_, refl, sym, ap, _∙_, subst}
-use mathlib.Core.List.{List, [], _∷_, _++_, append-assoc}
+use mathlib.Core.List.{List, _++_, append-assoc}
 use mathlib.Core.Bool.{true, false, cond}
 use Prim.Native.Nat.{ℕ, _+_, _%_, _≤_, _<_}
 use native.Mathlib.Omega.{arith}
@@ -8,7 +8,6 @@ use lib.Dec.{leb}
 use lib.IntN.{ℤ}
 use lib.ListN.{length, drop}
 use mir.Syntax.{w32}
-use mir.Val.{SFits}
 use Rattle.std.proofs.shelf.Lists.{drop-drop, drop-at, length-append}
 use Rattle.std.proofs.shelf.Tests.{le-leb, leb-true}
 use Rattle.std.specs.shelf.Signed.{wrapped}
@@ -26,7 +25,6 @@ use Rattle.varint.proofs.Foldings.{unfolded-folded, folded-unfolded, folded-bel
 use Rattle.journal.specs.declared.entry.Entry.{Entry}
 use Rattle.journal.specs.declared.kind.Kind.{Kind}
 use Rattle.journal.specs.declared.refusal.LayRefusal.{LayRefusal}
-use Rattle.journal.specs.declared.refusal.LayRefusal.the-variants.{WrongNumber}
 use Rattle.journal.specs.Kinds.{kindNumber, kindOf}
 use Rattle.journal.proofs.Entries.{same-entry, number-fits}
 use Rattle.journal.proofs.KindNumbers.{kind-of-its-number, number-of-its-kind, kind-number-below}

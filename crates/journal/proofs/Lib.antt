@@ -1,3 +1,4 @@
 pub mod Entries
+pub mod Fronts
 pub mod Newest
 pub mod KindNumbers

@@ -1,8 +1,8 @@
 -- The entry that is found from the end is the one that was written there.
 use mathlib.Core.Path.{_≡_, refl, sym, ap, _∙_, subst}
-use mathlib.Core.List.{List, [], _∷_, _++_, append-assoc}
+use mathlib.Core.List.{List, _++_}
 use mathlib.Core.Bool.{true, false, cond}
-use mathlib.Core.Logic.{_⊎_, inl, inr, ⊎-elim}
+use mathlib.Core.Logic.{_⊎_, ⊎-elim}
 use Prim.Native.Nat.{ℕ, zero, suc, _+_, _-_, _≤_, _<_}
 use native.Mathlib.Omega.{arith}
 use lib.Dec.{ltb}
@@ -91,8 +91,10 @@ found : {X Y : Type 0} (o : Option X) (next : X → Option Y) (y : Y) → andThe
 found None next y e = let z : _≡_ {A = ℕ} 0 1 = cc in absurd (omega arith)
 found (Some x) next y e = (x, refl, e)
 
-from-found : (start : ℕ) (r : Result Placed LayRefusal) (l : Last) → lastFrom start r ≡ Some l → (p : Placed) × (r ≡ Ok p) × (_≡_ {A = Last} (record { entry = p .entry; start = start }) l)
-from-found start (Ok p) l e = (p, refl, cc)
+from-found : (start : ℕ) (r : Result Placed LayRefusal) (l : Last) → lastFrom start r ≡ Some l → (p : Placed) × (r ≡ Ok p) × (p .entry ≡ l .entry) × (start ≡ l .start)
+from-found start (Ok p) l e =
+    let same : _≡_ {A = Last} (record { entry = p .entry; start = start }) l = cc in
+    (p, refl, ap (λ x. x .entry) same, ap (λ x. x .start) same)
 from-found start (Err f) l e = let z : _≡_ {A = ℕ} 0 1 = cc in absurd (omega arith)
 
 -- an entry that is read up to the end is the last one
@@ -132,8 +134,8 @@ last-is-read bs l e =
     let last = from-found (three .0) (entryAt bs (three .0)) l (three .2) in
     record {
       placed = last .0;
-      read = ap (entryAt bs) (sym (ap (λ x. x .start) (last .2))) ∙ last .1;
-      entry = ap (λ x. x .entry) (last .2);
+      read = ap (entryAt bs) (sym (last .3)) ∙ last .1;
+      entry = last .2;
       end = ends-at-end bs (three .0) (two .0) (one .0) (last .0 .end) (last .0 .entry) (parts-read bs (three .0) (last .0) (last .1))
           (start-begins bs (two .0) (three .0) (three .1)) (start-begins bs (one .0) (two .0) (two .1)) (start-begins bs (length bs) (one .0) (one .1));
     }

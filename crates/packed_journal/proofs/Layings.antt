@@ -1,7 +1,7 @@
 -- Bytes and entries yield each other back.
 use mathlib.Core.Path.{_≡_, refl, sym, ap, _∙_, subst}
 use mathlib.Core.List.{List, [], _∷_, _++_, reverse, reverse-append, append-assoc}
-use mathlib.Core.Bool.{Bool, true, false, cond}
+use mathlib.Core.Bool.{true, false, cond}
 use mathlib.Core.Logic.{⊎-elim}
 use Prim.Native.Nat.{ℕ, zero, suc, _+_, _-_, _≤_, _<_}
 use native.Mathlib.Omega.{arith}
@@ -9,7 +9,7 @@ use lib.Dec.{leb}
 use lib.ListN.{length, take, drop}
 use Rattle.std.specs.Joined.{joined}
 use Rattle.std.proofs.shelf.Lists.{append-nil, drop-at, drop-all, drop-drop, length-append, length-drop, reverse-reverse}
-use Rattle.std.proofs.shelf.Tests.{le-leb, lt-leb, leb-true, leb-false, cases-lt}
+use Rattle.std.proofs.shelf.Tests.{le-leb, lt-leb, leb-true, cases-lt}
 use Rattle.std.specs.declared.result.Result.{Result}
 use Rattle.std.specs.declared.result.Result.the-variants.{Ok, Err}
 use Rattle.varint.specs.Readings.{Ends}

@@ -1,17 +1,15 @@
 -- The bytes of a list, and the list that bytes hold.
 use mathlib.Core.Path.{_≡_, refl, sym, ap, _∙_}
-use mathlib.Core.List.{List, [], _∷_, _++_, reverse, reverse-append, append-assoc}
+use mathlib.Core.List.{List, [], _∷_, _++_, reverse, reverse-append}
 use Prim.Native.Nat.{ℕ, zero, suc, _+_, _-_, _≤_, _<_}
 use native.Mathlib.Omega.{arith}
-use lib.ListN.{length, take, drop}
+use lib.ListN.{length, take}
 use Rattle.std.specs.Joined.{joined}
 use Rattle.std.proofs.shelf.Lists.{append-nil, drop-at, length-append, length-take, nil-from-length, take-at, joined-more}
 use Rattle.std.specs.declared.option.Option.{Option}
 use Rattle.std.specs.declared.option.Option.the-variants.{Some, None}
-use Rattle.std.specs.declared.result.Result.the-variants.{Ok, Err}
 use Rattle.varint.proofs.Writings.{size-least}
 use Rattle.journal.specs.declared.entry.Entry.{Entry}
-use Rattle.entry_codec.specs.Reading.{entryAt}
 use Rattle.entry_codec.specs.Writing.{entryBytes}
 use Rattle.entry_codec.proofs.EntryReads.{read-entry-bytes}
 use Rattle.entry_codec.proofs.EntryWrites.{length-entry}

@@ -6,9 +6,10 @@ use Prim.Native.Nat.{ℕ, _+_, _-_, _≤_, _<_, min}
 use native.Mathlib.Omega.{arith}
 use lib.Dec.{ltb}
 use lib.ListN.{length, take, getD, set}
-use Rattle.std.proofs.shelf.Lists.{take-more, take-more-set, take-all, length-reverse, length-take}
+use Rattle.std.proofs.shelf.Lists.{take-more, take-more-set, length-reverse, length-take}
 use Rattle.std.proofs.shelf.Tests.{cases-lt, le-leb, lt-leb, lt-ltb, le-ltb}
 use Rattle.journal.specs.declared.entry.Entry.{Entry}
+use Rattle.journal.proofs.Fronts.{take-what-there-is}
 use Rattle.slot_journal.specs.Slots.{held, placesEnough}
 
 pub written-entry-is-newest : (slots : List Entry) (n : ℕ) (e : Entry) → n < length slots → held (n + 1) (set slots n e) ≡ e ∷ held n slots
@@ -16,11 +17,7 @@ written-entry-is-newest slots n e h = ap reverse (take-more-set slots n e h) ∙
 
 -- places past the end of the table hold nothing
 pub held-within-table : (slots : List Entry) (n used : ℕ) → used ≡ min n (length slots) → held n slots ≡ held used slots
-held-within-table slots n used e =
-    ⊎-elim
-    (λ h. let k : n ≡ used = omega arith in ap (λ m. held m slots) k)
-    (λ h. let k : length slots ≤ used = omega arith in ap reverse (take-all n slots h ∙ sym (take-all used slots k)))
-    (cases-lt n (length slots))
+held-within-table slots n used e = ap reverse (take-what-there-is slots n used e)
 
 pub last-place-is-newest : (slots : List Entry) (used : ℕ) (d : Entry) → 0 < used → used ≤ length slots → held used slots ≡ getD slots (used - 1) d ∷ held (used - 1) slots
 last-place-is-newest slots used d p q =

@@ -5,11 +5,10 @@ use mathlib.Core.Bool.{Bool, true, false, cond, _&&_}
 use mathlib.Core.Logic.{_⊎_, inl, inr, ⊎-elim}
 use Prim.Native.Nat.{ℕ, zero, suc, _+_, _-_, _*_, _/_, _%_, _≤_, _<_}
 use native.Mathlib.Omega.{arith}
-use native.Mathlib.Numerals.{add-one}
 use lib.Dec.{ltb, leb, eqb}
 use lib.ListN.{length, getD, take, drop}
-use Rattle.std.proofs.shelf.Lists.{getD-drop, getD-append-left, drop-more, drop-all, drop-drop, drop-at, append-nil, append-cancel-right, length-append, length-drop, length-push, length-take-le, take-at, take-append-drop}
-use Rattle.std.proofs.shelf.Tests.{ltb-true, ltb-false, lt-ltb, le-ltb, le-leb, lt-leb, leb-true, eqb-true, eq-eqb, and-parts, and-from, and-left, and-right, cases-lt, both-ways}
+use Rattle.std.proofs.shelf.Lists.{getD-drop, getD-append-left, drop-more, drop-all, drop-drop, drop-at, append-nil, append-cancel-right, length-append, length-drop, length-take-le, take-at}
+use Rattle.std.proofs.shelf.Tests.{ltb-true, lt-ltb, le-ltb, le-leb, lt-leb, eqb-true, eq-eqb, and-parts, and-from, and-left, and-right, cases-lt}
 use Rattle.std.specs.declared.result.Result.{Result}
 use Rattle.std.specs.declared.result.Result.the-variants.{Ok, Err}
 use Rattle.varint.specs.declared.number.Fault.{Fault}

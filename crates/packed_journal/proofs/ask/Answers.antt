@@ -1,7 +1,4 @@
 use borrow.Author.Needs.{needs}
-use mathlib.Core.Path.{ap}
-use native.Mathlib.Omega.{arith}
-use mathlib.Core.Bool.{cond}
 use Rattle.packed_journal.proofs.Layings.{yield-each-other-back, one-writing}
 use Rattle.packed_journal.proofs.ask.Needs as need
 
