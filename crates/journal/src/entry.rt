@@ -4,9 +4,11 @@ ghost use lib.Signed.{mag};
 ghost use mathlib.Core.Path.{_≡_};
 ghost use Rattle.std.specs.Options.{Cases as BySome};
 use crate::kind::Kind;
+use crate::kind::KindDebug;
+use crate::kind::KindPartialEq;
 
 // Who did what, and the number that undoing it needs. The owner is a process number, in an Enter entry the row.
-#[derive(Clone, Copy)]
+#[derive(Clone, Copy, PartialEq, Eq, Debug)]
 pub struct Entry {
     pub owner: u16,
     pub kind: Kind,

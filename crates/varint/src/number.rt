@@ -126,3 +126,45 @@ pub fn write(bytes: &mut [u8], at: usize, n: u32) -> Result<usize, NoRoom>
     }
     Ok(put(bytes, at, n))
 }
+
+#[cfg(test)]
+mod tests {
+    use super::*;
+    use std::test::*;
+
+    #[test]
+    fn numbers_are_written_and_read() -> Result<(), Fail> {
+        let table: [(u32, &[u8]); 8] = [
+            (0, &[0]),
+            (127, &[127]),
+            (128, &[1, 128]),
+            (300, &[2, 172]),
+            (16_384, &[1, 128, 128]),
+            (2_097_152, &[1, 128, 128, 128]),
+            (268_435_456, &[1, 128, 128, 128, 128]),
+            (4_294_967_295, &[15, 255, 255, 255, 255]),
+        ];
+        for (n, bytes) in table {
+            let mut buffer = [7u8; 8];
+            check_eq(write(&mut buffer, 1, n), Ok(1 + bytes.len()))?;
+            check(buffer[1..].starts_with(bytes))?;
+            check_eq(read(bytes, 0), Ok((n, bytes.len())))?;
+        }
+        Ok(())
+    }
+
+    #[test]
+    fn other_bytes_are_no_numbers() -> Result<(), Fail> {
+        check_eq(read(&[0, 172], 0), Err(Fault::Malformed(0)))?;
+        check_eq(
+            read(&[5, 16, 128, 128, 128, 128], 1),
+            Err(Fault::Malformed(1)),
+        )?;
+        check_eq(
+            read(&[1, 128, 128, 128, 128, 128], 0),
+            Err(Fault::Malformed(0)),
+        )?;
+        check_eq(read(&[172, 0], 0), Err(Fault::Malformed(0)))?;
+        check_eq(read(&[5], 1), Err(Fault::Ended(1)))
+    }
+}
