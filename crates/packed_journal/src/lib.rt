@@ -118,3 +118,37 @@ pub impl<'a> Journal for PackedJournal<'a> as PackedJournalJournal {
         }
     }
 }
+
+#[cfg(test)]
+mod tests {
+    use super::*;
+    use journal::refusal::LayRefusalDebug;
+    use journal::refusal::LayRefusalPartialEq;
+    use std::test::*;
+
+    #[test]
+    fn used_bytes_are_judged_in_reading_order() -> Result<(), Fail> {
+        let table: [(&[u8], usize, Result<(), LayRefusal>); 12] = [
+            (&[], 0, Ok(())),
+            (&[10, 4, 2, 172], 4, Ok(())),
+            (&[10, 4, 2, 172], 3, Ok(())),
+            (&[10, 4, 2, 172], 5, Err(LayRefusal::UsedBeyondEnd(4))),
+            (&[10, 4, 2, 172], 2, Err(LayRefusal::MissingNumber(2))),
+            (&[1, 255, 255, 1, 0], 5, Ok(())),
+            (&[2, 128, 128, 1, 0], 5, Err(LayRefusal::WrongNumber(0))),
+            (&[0, 1, 0, 0, 0, 0], 6, Err(LayRefusal::WrongNumber(4))),
+            (&[0, 1, 0, 0, 10], 5, Err(LayRefusal::WrongNumber(4))),
+            (&[0, 1, 0, 130], 4, Err(LayRefusal::WrongNumber(2))),
+            (&[200, 1, 0], 3, Err(LayRefusal::WrongNumber(0))),
+            (
+                &[0, 4, 16, 128, 128, 128, 128],
+                7,
+                Err(LayRefusal::WrongNumber(2)),
+            ),
+        ];
+        for (bytes, used, answer) in table {
+            check_eq(ask(bytes, used), answer)?;
+        }
+        Ok(())
+    }
+}
