@@ -1,0 +1,55 @@
+// Why there is nothing to show.
+ghost use mathlib.Core.Path.{_≡_};
+ghost use Rattle.inspect.specs.declared.failure.Failure.the-variants.{Refused, OutOfMemory};
+use journal::refusal::LayRefusal;
+use report::refusal::Refusal;
+use report::refusal::RefusalDisplay;
+use std::alloc::AllocError;
+use std::fmt;
+use std::io;
+
+pub const USAGE: &str = "usage: inspect [FILE]";
+
+#[derive(Drop)]
+pub enum Failure {
+    // Words that ask for nothing.
+    Usage,
+    Unread(String, io::Error),
+    Refused(LayRefusal),
+    System(io::Error),
+    OutOfMemory,
+}
+
+pub impl From<LayRefusal> for Failure as FailureFromLayRefusal {
+    ghost converts = { λ refusal r. r ≡ Refused refusal };
+
+    fn from(refusal: LayRefusal) -> Failure {
+        Failure::Refused(refusal)
+    }
+}
+
+pub impl From<io::Error> for Failure as FailureFromIo {
+    fn from(error: io::Error) -> Failure {
+        Failure::System(error)
+    }
+}
+
+pub impl From<AllocError> for Failure as FailureFromAllocError {
+    ghost converts = { λ _ r. r ≡ OutOfMemory };
+
+    fn from(_error: AllocError) -> Failure {
+        Failure::OutOfMemory
+    }
+}
+
+pub impl fmt::Display for Failure as FailureDisplay {
+    fn fmt<W: fmt::Write>(&self, f: &mut fmt::Formatter<W>) -> fmt::Result {
+        match self {
+            Failure::Usage => f.write_str(USAGE),
+            Failure::Unread(name, error) => write!(f, "{name}: {error}"),
+            Failure::Refused(refusal) => Refusal { refusal: *refusal }.fmt(f),
+            Failure::System(error) => write!(f, "{error}"),
+            Failure::OutOfMemory => f.write_str("out of memory"),
+        }
+    }
+}

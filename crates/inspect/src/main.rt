@@ -1,0 +1,73 @@
+// Shows a packed journal: its entries, the newest first, and how many each process and each row has.
+use failure::Failure;
+use failure::FailureDisplay;
+use failure::FailureFromAllocError;
+use failure::FailureFromIo;
+use failure::USAGE;
+use input::Request;
+use input::asked;
+use input::bytes_of;
+use input::entries_in;
+use journal::entry::Entry;
+use report::line::LineDisplay;
+use report::line::lines;
+use report::owner::Owner;
+use report::tally::Share;
+use report::tally::ShareDisplay;
+use report::tally::Tally;
+
+mod failure;
+mod input;
+
+fn main(rt: LibcRuntime) -> Result<(), Failure> {
+    let result = run(&rt);
+    if let Err(failure) = &result {
+        eprintln!(rt, "{failure}")?;
+    }
+    result
+}
+
+fn run(rt: &LibcRuntime) -> Result<(), Failure> {
+    let source = match asked(rt)? {
+        Request::Bytes(source) => source,
+        Request::Help => {
+            rt.println(USAGE)?;
+            return Ok(());
+        }
+    };
+    let mut bytes = bytes_of(rt, source)?;
+    let entries = entries_in(rt.alloc(), bytes.as_mut_slice())?;
+    show(rt, entries.as_slice(), bytes.len())
+}
+
+fn show(rt: &LibcRuntime, entries: &[Entry], bytes: usize) -> Result<(), Failure> {
+    let count = entries.len();
+    println!(rt, "entries {count}, bytes {bytes}")?;
+    if entries.is_empty() {
+        return Ok(());
+    }
+    println!(rt)?;
+    for line in lines(rt.alloc(), entries)?.iter() {
+        println!(rt, "{line}")?;
+    }
+    println!(rt)?;
+    show_tally(rt, &Tally::of(rt.alloc(), entries)?)
+}
+
+fn show_tally(rt: &LibcRuntime, tally: &Tally) -> Result<(), Failure> {
+    for (number, entries) in tally.processes.iter() {
+        let share = Share {
+            owner: Owner::Process(*number),
+            entries: *entries,
+        };
+        println!(rt, "{share}")?;
+    }
+    for (number, entries) in tally.rows.iter() {
+        let share = Share {
+            owner: Owner::Row(*number),
+            entries: *entries,
+        };
+        println!(rt, "{share}")?;
+    }
+    Ok(())
+}
