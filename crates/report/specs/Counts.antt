@@ -1,6 +1,6 @@
 -- How many entries each owner has.
 use mathlib.Core.Path.{_≡_}
-use mathlib.Core.Bool.{Bool, true, false, cond}
+use mathlib.Core.Bool.{Bool, false, cond}
 use mathlib.Core.List.{List, [], _∷_, _++_}
 use Prim.Native.Nat.{ℕ, zero, suc, _+_, _-_, _^_, min}
 use lib.Chars.{codes}
@@ -8,7 +8,6 @@ use lib.Dec.{eqb}
 use Rattle.std.specs.declared.collections.BTreeMap.{BTreeMap}
 use Rattle.std.specs.declared.option.Option.{Option}
 use Rattle.std.specs.declared.option.Option.the-variants.{Some, None}
-use Rattle.std.specs.declared.alloc.Global.{Global}
 use Rattle.std.specs.BTreeMap.{Ordered, at}
 use Rattle.std.specs.Keys.{unsigned}
 use Rattle.std.specs.Options.{valueOr}
