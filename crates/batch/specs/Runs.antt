@@ -10,6 +10,10 @@ abbrev pub longestRun : {E : Type 0} → (List E → Bool) → List E → List E
 longestRun fits held [] = 0
 longestRun fits held (entry ∷ entries) = cond (fits (entry ∷ held)) (1 + longestRun fits (entry ∷ held) entries) 0
 
+-- what a journal holds after them: the newest of those that went through, down to the first, on what was held
+abbrev pub recorded : {E : Type 0} → (List E → Bool) → List E → List E → List E
+recorded fits held batch = reverse (take (longestRun fits held batch) batch) ++ held
+
 -- the entry at a place went through, and the run goes on behind it; or the run ends at the place
 abbrev pub Stepped : {E : Type 0} → (List E → Bool) → List E → ℕ → List E → Bool → List E → Type 0
 Stepped {E} fits batch place before true after =

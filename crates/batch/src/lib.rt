@@ -1,19 +1,18 @@
 // Whole lists of entries through any journal.
-ghost use mathlib.Core.List.{_++_, reverse};
+ghost use mathlib.Core.List.{_++_};
 ghost use mathlib.Core.Path.{_≡_};
-ghost use lib.ListN.{take};
 ghost use Rattle.std.specs.Of.Vec.{vec-items};
 ghost use Rattle.std.specs.Vec.{made};
-ghost use Rattle.batch.specs.Runs.{longestRun, Stepped};
+ghost use Rattle.batch.specs.Runs.{longestRun, recorded, Stepped};
 use journal::entry::Entry;
 use journal::journal::Journal;
 use std::alloc::AllocError;
 use std::alloc::Global;
 
 // Pushes the entries in their order until one does not fit, and answers how many were pushed.
-pub fn record_all<J: Journal>(journal: &mut J, batch: &[Entry]) -> usize
+pub fn record_until_full<J: Journal>(journal: &mut J, batch: &[Entry]) -> usize
     ensures count { λ r. ⌜ r ≡ longestRun (fits (now (journal .entry))) (entries (now (journal .entry))) (now (batch .entry)) ⌝ }
-    ensures list { λ r. ⌜ entries (now (journal .exit)) ≡ reverse (take r (now (batch .entry))) ++ entries (now (journal .entry)) ⌝ }
+    ensures list { λ _. ⌜ entries (now (journal .exit)) ≡ recorded (fits (now (journal .entry))) (entries (now (journal .entry))) (now (batch .entry)) ⌝ }
     ensures rule { λ _. ⌜ fits (now (journal .exit)) ≡ fits (now (journal .entry)) ⌝ }
 {
     let mut pushed = 0;

@@ -7,12 +7,14 @@ ghost use Rattle.std.specs.Results.{Cases};
 ghost use Rattle.std.specs.Vec.{made, refused};
 ghost use Rattle.std.specs.shelf.Signed.{wrapped};
 ghost use Rattle.journal.specs.Meaning.{olderOf};
+ghost use Rattle.journal.specs.Refusals.{told};
 ghost use Rattle.delta_journal.specs.Differences.{renumbered, differences, originals, baseOf, differencesFit, NumbersComeBack};
 ghost use Rattle.delta_journal.specs.Taking.{Taken};
 use journal::entry::Entry;
 use journal::journal::Full;
 use journal::journal::Journal;
 use journal::refusal::LayRefusal;
+use journal::refusal::Refused;
 
 // Beneath lie the entries, each with its number less the number before; kept is the newest number.
 #[derive(Drop)]
@@ -21,17 +23,10 @@ pub struct Delta<J: Journal> {
     kept: i32,
 }
 
-// A journal that cannot bear the layer, handed back.
-#[derive(Drop)]
-pub struct Refused<J> {
-    pub journal: J,
-    pub refusal: LayRefusal,
-}
-
 impl<J: Journal> Delta<J> {
     // Whether the journal can bear the layer: it has no entry.
     pub fn ask(journal: &J) -> Result<(), LayRefusal>
-        ensures { λ r. ⌜ Cases r (λ _. entries (now (journal .entry)) ≡ []) (λ f. (entries (now (journal .entry)) ≡ [] → ⊥) × (f ≡ LayRefusal.EntryBeneath)) ⌝ }
+        ensures { λ r. ⌜ Cases r (λ _. entries (now (journal .entry)) ≡ []) (λ f. (entries (now (journal .entry)) ≡ [] → ⊥) × (f ≡ LayRefusal.EntryBeneath) × (told f ≡ (14, 0))) ⌝ }
     {
         match journal.newest() {
             None => Ok(()),
@@ -41,14 +36,17 @@ impl<J: Journal> Delta<J> {
 
     // The empty layer on the journal, or the journal back. A list fits where its differences from 0 on fit below.
     pub fn lay(journal: J) -> Result<Delta<J>, Refused<J>>
-        ensures laid { λ r. ⌜ made r (λ d. (entries journal ≡ []) × (d .below ≡ journal) × (originals (d .kept) (entries (d .below)) ≡ [])) ⌝ }
+        ensures laid { λ r. ⌜ made r (λ d. (entries journal ≡ []) × (d .below ≡ journal) × (d .kept ≡ pos 0) × (originals (d .kept) (entries (d .below)) ≡ [])) ⌝ }
         ensures rule { λ r. ⌜ made r (λ d. differencesFit (fits (d .below)) (baseOf (d .kept) (entries (d .below))) ≡ differencesFit (fits journal) (pos 0)) ⌝ }
         ensures numbers_come_back { λ r. ⌜ made r (λ _. NumbersComeBack) ⌝ }
-        ensures handed_back { λ r. ⌜ refused r (λ f. (entries journal ≡ [] → ⊥) × (f .journal ≡ journal) × (f .refusal ≡ LayRefusal.EntryBeneath)) ⌝ }
+        ensures handed_back { λ r. ⌜ refused r (λ f. (entries journal ≡ [] → ⊥) × (f .back ≡ journal) × (f .refusal ≡ LayRefusal.EntryBeneath) × (told (f .refusal) ≡ (14, 0))) ⌝ }
     {
         match Delta::ask(&journal) {
             Ok(()) => Ok(Delta::new(journal)),
-            Err(refusal) => Err(Refused { journal, refusal }),
+            Err(refusal) => Err(Refused {
+                back: journal,
+                refusal,
+            }),
         }
     }
 

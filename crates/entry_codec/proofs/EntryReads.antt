@@ -18,7 +18,7 @@ use Rattle.std.specs.declared.result.Result.{Result}
 use Rattle.std.specs.declared.result.Result.the-variants.{Ok, Err}
 use Rattle.varint.specs.declared.number.Fault.{Fault}
 use Rattle.varint.specs.Writings.{writing}
-use Rattle.varint.specs.Readings.{numberAt, Ends, Own}
+use Rattle.varint.specs.Readings.{numberAt, Ends, WritingAt}
 use Rattle.varint.specs.Zigzag.{folded, unfolded}
 use Rattle.varint.proofs.Readings.{read-writing, own-number, ends-before-writing}
 use Rattle.varint.proofs.Foldings.{unfolded-folded, folded-unfolded, folded-below, unfolded-fits}
@@ -79,7 +79,7 @@ judged-accepted : {X : Type 0} (meaning : ℕ → Option X) (at : ℕ) (r : Resu
 judged-accepted meaning at (Ok q) p e = let s = standing-accepted at (q .1) (meaning (q .0)) p e in (q .0, ap (λ t. Ok (q .0, t)) (s .1), s .0)
 judged-accepted meaning at (Err f) p e = let z : _≡_ {A = ℕ} 0 1 = cc in absurd (omega arith)
 
-part-accepted : {X : Type 0} (meaning : ℕ → Option X) (bs : List ℕ) (at : ℕ) (p : X × ℕ) → partAt meaning bs at ≡ Ok p → (v : ℕ) × Own bs at v (p .1) × (meaning v ≡ Some (p .0))
+part-accepted : {X : Type 0} (meaning : ℕ → Option X) (bs : List ℕ) (at : ℕ) (p : X × ℕ) → partAt meaning bs at ≡ Ok p → (v : ℕ) × WritingAt bs at v (p .1) × (meaning v ≡ Some (p .0))
 part-accepted meaning bs at p e = let s = judged-accepted meaning at (numberAt bs at) p e in (s .0, own-number bs at (s .0) (p .1) (s .1), s .2)
 
 owner-accepted : (v o : ℕ) → ownerOf v ≡ Some o → (v ≡ o) × (o ≤ 32767)
@@ -93,9 +93,9 @@ owner-accepted v o =
 pub record Parts (bs : List ℕ) (at : ℕ) (e : Entry) (end : ℕ) : Type 0 where
   pub kindPlace : ℕ
   pub numberPlace : ℕ
-  pub owner : Own bs at (e .owner) kindPlace
-  pub kind : Own bs kindPlace (kindNumber (e .kind)) numberPlace
-  pub number : Own bs numberPlace (folded (e .number)) end
+  pub owner : WritingAt bs at (e .owner) kindPlace
+  pub kind : WritingAt bs kindPlace (kindNumber (e .kind)) numberPlace
+  pub number : WritingAt bs numberPlace (folded (e .number)) end
 
 pub parts-read : (bs : List ℕ) (at : ℕ) (p : Placed) → entryAt bs at ≡ Ok p → Parts bs at (p .entry) (p .end)
 parts-read bs at p e =
@@ -118,9 +118,9 @@ parts-read bs at p e =
     let here : Parts bs at (entryOf (o .0) (k .0) (n .0)) (n .1) = record {
       kindPlace = o .1;
       numberPlace = k .1;
-      owner = subst (λ v. Own bs at v (o .1)) vo (a .1);
-      kind = subst (λ v. Own bs (o .1) v (k .1)) vk (b .1);
-      number = subst (λ v. Own bs (k .1) v (n .1)) vn (c .1);
+      owner = subst (λ v. WritingAt bs at v (o .1)) vo (a .1);
+      kind = subst (λ v. WritingAt bs (o .1) v (k .1)) vk (b .1);
+      number = subst (λ v. WritingAt bs (k .1) v (n .1)) vn (c .1);
     } in
     subst (λ x. Parts bs at (x .entry) (x .end)) same here
 

@@ -7,7 +7,7 @@ use Rattle.std.specs.declared.result.Result.the-variants.{Ok, Err}
 use Rattle.varint.specs.declared.number.Fault.the-variants.{Malformed, Ended}
 use Rattle.varint.specs.Writings.{writing}
 use Rattle.varint.specs.Readings.{numberAt}
-use Rattle.varint.specs.Zigzag.{folded}
+use Rattle.varint.specs.Zigzag.{folded, unfolded}
 use Rattle.journal.specs.declared.entry.Entry.{Entry}
 use Rattle.journal.specs.declared.kind.Kind.the-variants.{Store}
 use Rattle.entry_codec.specs.Reading.{entryAt}
@@ -23,5 +23,6 @@ pub record WorkedExamples : Type 0 where
   pub padded : numberAt (0 ∷ 172 ∷ []) 0 ≡ Err (Malformed 0)
   pub missing : numberAt [] 0 ≡ Err (Ended 0)
   pub folding : folded (negsuc 0) ≡ 1
+  pub unfoldingBack : unfolded 1 ≡ negsuc 0
   pub entry : entryBytes stored ≡ 10 ∷ 4 ∷ 2 ∷ 172 ∷ []
   pub entryRead : entryAt (10 ∷ 4 ∷ 2 ∷ 172 ∷ []) 0 ≡ Ok (record { entry = stored; end = 4 })

@@ -33,6 +33,7 @@ abbrev pub standing : {X : Type 0} → ℕ → ℕ → Option X → Result (X ×
 standing at end (Some x) = Ok (x, end)
 standing at end None = Err (WrongNumber at)
 
+-- the same of what the number reader answered
 abbrev pub judgedPart : {X : Type 0} → (ℕ → Option X) → ℕ → Result (ℕ × ℕ) Fault → Result (X × ℕ) LayRefusal
 judgedPart meaning at (Ok p) = standing at (p .1) (meaning (p .0))
 judgedPart meaning at (Err fault) = Err (raised fault)
@@ -41,10 +42,11 @@ judgedPart meaning at (Err fault) = Err (raised fault)
 abbrev pub partAt : {X : Type 0} → (ℕ → Option X) → List ℕ → ℕ → Result (X × ℕ) LayRefusal
 partAt meaning bs at = judgedPart meaning at (numberAt bs at)
 
--- which numbers are owners, and what a folded number stands for
+-- which numbers are owners
 abbrev pub ownerOf : ℕ → Option ℕ
 ownerOf n = cond (leb n 32767) (Some n) None
 
+-- what a folded number stands for: every number is one
 abbrev pub numberOf : ℕ → Option ℤ
 numberOf n = Some (unfolded n)
 
@@ -55,6 +57,7 @@ remainder-owned o = omega arith
 abbrev pub entryOf : ℕ → Kind → ℤ → Entry
 entryOf o k n = record { owner = o % 32768; kind = k; number = wrapped w32 n; owned = remainder-owned o; sized = sfits-wrapped w32 n .sfits }
 
+-- the same, with the place after it
 abbrev pub placed : ℕ → Kind → ℤ → ℕ → Placed
 placed o k n end = record { entry = entryOf o k n; end = end }
 

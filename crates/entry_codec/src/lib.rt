@@ -4,9 +4,11 @@ ghost use mathlib.Core.Path.{_≡_};
 ghost use lib.ListN.{length};
 ghost use Rattle.std.specs.Vec.{made};
 ghost use Rattle.journal.specs.Kinds.{kindOf};
+ghost use Rattle.varint.specs.Written.{Wrote};
 ghost use Rattle.entry_codec.specs.Reading.{partAt, ownerOf, numberOf, entryAt, placed};
-ghost use Rattle.entry_codec.specs.Writing.{entryBytes, WroteEntry, EntryReadBack};
+ghost use Rattle.entry_codec.specs.Writing.{entryBytes, EntryReadBack};
 use journal::entry::Entry;
+use journal::entry::MOST_OWNER;
 use journal::kind::Kind;
 use journal::refusal::LayRefusal;
 use journal::refusal::LayRefusalFromFault;
@@ -18,8 +20,6 @@ use varint::zigzag::fold;
 use varint::zigzag::unfold;
 
 pub mod examples;
-
-const MOST_OWNER: u32 = 32_767;
 
 // An entry that was read, and the place after it.
 #[derive(Clone, Copy)]
@@ -33,7 +33,7 @@ fn read_owner(bytes: &[u8], at: usize) -> Result<(u16, usize), LayRefusal>
     ensures owned { λ r. ⌜ made r (λ p. p .0 ≤ 32767) ⌝ }
 {
     let (owner, end) = read(bytes, at)?;
-    if owner > MOST_OWNER {
+    if owner > u32::from(MOST_OWNER) {
         return Err(LayRefusal::WrongNumber(at));
     }
     Ok((owner as u16, end))
@@ -88,7 +88,7 @@ fn entry_size(entry: Entry) -> usize
 
 fn put_entry(bytes: &mut [u8], at: usize, entry: Entry) -> Result<usize, NoRoom>
     requires { ⌜ at + length (entryBytes entry) ≤ length (now bytes) ⌝ }
-    ensures answer { λ r. ⌜ WroteEntry (now (bytes .entry)) at entry r (now (bytes .exit)) ⌝ }
+    ensures answer { λ r. ⌜ Wrote (now (bytes .entry)) at (entryBytes entry) r (now (bytes .exit)) ⌝ }
     ensures back { λ r. ⌜ made r (λ end. EntryReadBack (now (bytes .exit)) at entry end) ⌝ }
 {
     let kind_at = write(bytes, at, u32::from(entry.owner))?;
@@ -98,7 +98,7 @@ fn put_entry(bytes: &mut [u8], at: usize, entry: Entry) -> Result<usize, NoRoom>
 
 // Writes an entry from a place on, and answers the place after it; where it does not fit, nothing is written.
 pub fn write_entry(bytes: &mut [u8], at: usize, entry: Entry) -> Result<usize, NoRoom>
-    ensures answer { λ r. ⌜ WroteEntry (now (bytes .entry)) at entry r (now (bytes .exit)) ⌝ }
+    ensures answer { λ r. ⌜ Wrote (now (bytes .entry)) at (entryBytes entry) r (now (bytes .exit)) ⌝ }
     ensures back { λ r. ⌜ made r (λ end. EntryReadBack (now (bytes .exit)) at entry end) ⌝ }
 {
     let room = bytes.len();

@@ -1,30 +1,33 @@
 // Why there is nothing to show.
 ghost use mathlib.Core.Path.{_≡_};
-ghost use Rattle.inspect.specs.declared.failure.Failure.the-variants.{Refused, OutOfMemory};
+ghost use Rattle.inspect.specs.declared.failure.Failure.the-variants.{Damaged, OutOfMemory};
 use journal::refusal::LayRefusal;
+use journal::refusal::Refused;
 use report::refusal::Refusal;
 use report::refusal::RefusalDisplay;
 use std::alloc::AllocError;
 use std::fmt;
 use std::io;
 
-pub const USAGE: &str = "usage: inspect [FILE]";
+pub const USAGE: &str = "usage: inspect [FILE]\n\
+Shows the entries of a packed journal, the newest first, and counts them.\n\
+With no FILE it reads standard input.";
 
 #[derive(Drop)]
 pub enum Failure {
     // Words that ask for nothing.
     Usage,
     Unread(String, io::Error),
-    Refused(LayRefusal),
+    Damaged(LayRefusal),
     System(io::Error),
     OutOfMemory,
 }
 
-pub impl From<LayRefusal> for Failure as FailureFromLayRefusal {
-    ghost converts = { λ refusal r. r ≡ Refused refusal };
+pub impl<T: Drop> From<Refused<T>> for Failure as FailureFromRefused {
+    ghost converts = { λ refused r. r ≡ Damaged (refused .refusal) };
 
-    fn from(refusal: LayRefusal) -> Failure {
-        Failure::Refused(refusal)
+    fn from(refused: Refused<T>) -> Failure {
+        Failure::Damaged(refused.refusal)
     }
 }
 
@@ -47,7 +50,7 @@ pub impl fmt::Display for Failure as FailureDisplay {
         match self {
             Failure::Usage => f.write_str(USAGE),
             Failure::Unread(name, error) => write!(f, "{name}: {error}"),
-            Failure::Refused(refusal) => Refusal { refusal: *refusal }.fmt(f),
+            Failure::Damaged(refusal) => Refusal { refusal: *refusal }.fmt(f),
             Failure::System(error) => write!(f, "{error}"),
             Failure::OutOfMemory => f.write_str("out of memory"),
         }

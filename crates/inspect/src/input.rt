@@ -3,7 +3,7 @@ ghost use Rattle.inspect.specs.Found.{Found};
 use crate::failure::Failure;
 use crate::failure::FailureFromAllocError;
 use crate::failure::FailureFromIo;
-use crate::failure::FailureFromLayRefusal;
+use crate::failure::FailureFromRefused;
 use batch::into_entries;
 use journal::entry::Entry;
 use packed_journal::PackedJournal;

@@ -7,6 +7,7 @@ use Rattle.std.specs.declared.option.Option.the-variants.{Some, None}
 use Rattle.journal.specs.declared.kind.Kind.{Kind}
 use Rattle.journal.specs.declared.kind.Kind.the-variants.{Run, Done, Enter, Store, Jump, Alloc, Free, Fork, Merge}
 
+-- the number of a kind
 abbrev pub kindNumber : Kind → ℕ
 kindNumber Run = 1
 kindNumber Done = 2

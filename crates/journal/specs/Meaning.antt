@@ -11,7 +11,7 @@ use Rattle.journal.specs.declared.journal.Full.{Full}
 abbrev pub pushed : {E : Type 0} → (List E → Bool) → List E → E → List E
 pushed fits entries entry = cond (fits (entry ∷ entries)) (entry ∷ entries) entries
 
--- Full, if it does not
+-- Ok if the longer list fits, else Full
 abbrev pub pushAnswer : {E : Type 0} → (List E → Bool) → List E → E → Result (Unit {0}) Full
 pushAnswer fits entries entry = cond (fits (entry ∷ entries)) (Ok tt) (Err (record {}))
 

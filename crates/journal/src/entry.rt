@@ -7,6 +7,8 @@ use crate::kind::Kind;
 use crate::kind::KindDebug;
 use crate::kind::KindPartialEq;
 
+pub const MOST_OWNER: u16 = 32_767;
+
 // Who did what, and the number that undoing it needs. The owner is a process number, in an Enter entry the row.
 #[derive(Clone, Copy, PartialEq, Eq, Debug)]
 pub struct Entry {
@@ -23,7 +25,7 @@ impl Entry {
     pub fn new(owner: u16, kind: Kind, number: i32) -> Option<Entry>
         ensures { λ r. ⌜ BySome r (32767 < owner) (λ e. (e .owner ≡ owner) × (e .kind ≡ kind) × (e .number ≡ number)) ⌝ }
     {
-        if owner <= 32767 {
+        if owner <= MOST_OWNER {
             Some(Entry {
                 owner,
                 kind,

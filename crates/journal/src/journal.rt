@@ -18,15 +18,18 @@ pub trait Journal {
 
     ghost fits: { Self → List Entry → Bool };
 
+    // Adds an entry if the longer list fits.
     fn push(&mut self, entry: Entry) -> Result<(), Full>
         ensures answer { λ r. ⌜ r ≡ pushAnswer (fits (now (self .entry))) (entries (now (self .entry))) entry ⌝ }
         ensures list { λ _. ⌜ entries (now (self .exit)) ≡ pushed (fits (now (self .entry))) (entries (now (self .entry))) entry ⌝ }
         ensures rule { λ _. ⌜ fits (now (self .exit)) ≡ fits (now (self .entry)) ⌝ }
         ensures full { λ r. ⌜ Cases r (λ _. Unit {0}) (λ _. now (self .exit) ≡ now (self .entry)) ⌝ };
 
+    // The newest entry.
     fn newest(&self) -> Option<Entry>
         ensures { λ r. ⌜ r ≡ newestOf (entries (now (self .entry))) ⌝ };
 
+    // The newest entry, which is taken away.
     fn pop(&mut self) -> Option<Entry>
         ensures answer { λ r. ⌜ r ≡ newestOf (entries (now (self .entry))) ⌝ }
         ensures list { λ _. ⌜ entries (now (self .exit)) ≡ olderOf (entries (now (self .entry))) ⌝ }

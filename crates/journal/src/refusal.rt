@@ -40,3 +40,10 @@ pub impl From<Fault> for LayRefusal as LayRefusalFromFault {
         }
     }
 }
+
+// What was to bear a journal or a layer, handed back as it was.
+#[derive(Drop)]
+pub struct Refused<T> {
+    pub back: T,
+    pub refusal: LayRefusal,
+}

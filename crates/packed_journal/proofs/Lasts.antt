@@ -13,7 +13,7 @@ use Rattle.std.specs.declared.option.Option.{Option}
 use Rattle.std.specs.declared.option.Option.the-variants.{Some, None}
 use Rattle.std.specs.declared.result.Result.{Result}
 use Rattle.std.specs.declared.result.Result.the-variants.{Ok, Err}
-use Rattle.varint.specs.Readings.{Own}
+use Rattle.varint.specs.Readings.{WritingAt}
 use Rattle.varint.proofs.Readings.{own-first, own-later, own-next}
 use Rattle.varint.specs.Zigzag.{folded}
 use Rattle.journal.specs.Kinds.{kindNumber}
@@ -24,7 +24,7 @@ use Rattle.entry_codec.specs.Reading.{entryAt}
 use Rattle.entry_codec.specs.Writing.{entryBytes}
 use Rattle.entry_codec.proofs.EntryReads.{Parts, parts-read, bytes-read}
 use Rattle.packed_journal.specs.declared.last.Last.{Last}
-use Rattle.packed_journal.specs.Packing.{lastStart, andThen, lastFrom, lastEntry}
+use Rattle.packed_journal.specs.Packing.{lastStart, ifFound, lastFrom, lastEntry}
 
 -- a number begins at `start`, and only later groups follow up to `end`
 pub record Begins (bs : List ℕ) (start end : ℕ) : Type 0 where
@@ -75,11 +75,11 @@ pub start-nowhere : (bs : List ℕ) → lastStart bs 0 ≡ None
 unfolding lastStart
 start-nowhere bs = refl
 
-own-begins : (bs : List ℕ) (at v end : ℕ) → Own bs at v end → Begins bs at end
+own-begins : (bs : List ℕ) (at v end : ℕ) → WritingAt bs at v end → Begins bs at end
 own-begins bs at v end o = record { before = o .forward; first = own-first bs at v end o; later = λ i. own-later bs at v end i o }
 
 -- a number that is read from its start ends where the next one begins
-ends-at-next : (bs : List ℕ) (at v end next : ℕ) → Own bs at v end → Begins bs at next → next ≤ length bs → (next < length bs → getD bs next 0 < 128) → end ≡ next
+ends-at-next : (bs : List ℕ) (at v end next : ℕ) → WritingAt bs at v end → Begins bs at next → next ≤ length bs → (next < length bs → getD bs next 0 < 128) → end ≡ next
 ends-at-next bs at v end next o b h f =
     ⊎-elim (λ e. e)
     (⊎-elim
@@ -87,7 +87,7 @@ ends-at-next bs at v end next o b h f =
     (λ l. absurd (omega (arith, f (omega (arith, o .within)), own-later bs at v end next o (b .before) l))))
     (cases-order end next)
 
-found : {X Y : Type 0} (o : Option X) (next : X → Option Y) (y : Y) → andThen o next ≡ Some y → (x : X) × (o ≡ Some x) × (next x ≡ Some y)
+found : {X Y : Type 0} (o : Option X) (next : X → Option Y) (y : Y) → ifFound o next ≡ Some y → (x : X) × (o ≡ Some x) × (next x ≡ Some y)
 found None next y e = let z : _≡_ {A = ℕ} 0 1 = cc in absurd (omega arith)
 found (Some x) next y e = (x, refl, e)
 
@@ -105,9 +105,9 @@ read-is-last bs at p e h =
     let number = begins-start bs (p .end) (parts .numberPlace) (own-begins bs (parts .numberPlace) _ (p .end) (parts .number)) in
     let kind = begins-start bs (parts .numberPlace) (parts .kindPlace) (own-begins bs (parts .kindPlace) _ (parts .numberPlace) (parts .kind)) in
     let owner = begins-start bs (parts .kindPlace) at (own-begins bs at _ (parts .kindPlace) (parts .owner)) in
-    ap (λ o. andThen o (λ number. andThen (lastStart bs number) (λ kind. andThen (lastStart bs kind) (λ start. lastFrom start (entryAt bs start))))) (ap (lastStart bs) (sym h) ∙ number)
-    ∙ ap (λ o. andThen o (λ kind. andThen (lastStart bs kind) (λ start. lastFrom start (entryAt bs start)))) kind
-    ∙ ap (λ o. andThen o (λ start. lastFrom start (entryAt bs start))) owner
+    ap (λ o. ifFound o (λ number. ifFound (lastStart bs number) (λ kind. ifFound (lastStart bs kind) (λ start. lastFrom start (entryAt bs start))))) (ap (lastStart bs) (sym h) ∙ number)
+    ∙ ap (λ o. ifFound o (λ kind. ifFound (lastStart bs kind) (λ start. lastFrom start (entryAt bs start)))) kind
+    ∙ ap (λ o. ifFound o (λ start. lastFrom start (entryAt bs start))) owner
     ∙ ap (lastFrom at) e
 
 -- the last entry is read up to the end
@@ -122,10 +122,10 @@ ends-at-end : (bs : List ℕ) (start kind number end : ℕ) (e : Entry) → Part
 ends-at-end bs start kind number end e parts owner· kind· number· =
     let k : parts .kindPlace ≡ kind = ends-at-next bs start (e .owner) (parts .kindPlace) kind (parts .owner) owner· (omega (arith, number· .before, kind· .before)) (λ _. kind· .first) in
     let n : parts .numberPlace ≡ number =
-    ends-at-next bs kind (kindNumber (e .kind)) (parts .numberPlace) number (subst (λ m. Own bs m (kindNumber (e .kind)) (parts .numberPlace)) k (parts .kind)) kind· (omega (arith, number· .before)) (λ _. number· .first) in
-    ends-at-next bs number (folded (e .number)) end (length bs) (subst (λ m. Own bs m (folded (e .number)) end) n (parts .number)) number· (omega arith) (λ h. absurd (omega arith))
+    ends-at-next bs kind (kindNumber (e .kind)) (parts .numberPlace) number (subst (λ m. WritingAt bs m (kindNumber (e .kind)) (parts .numberPlace)) k (parts .kind)) kind· (omega (arith, number· .before)) (λ _. number· .first) in
+    ends-at-next bs number (folded (e .number)) end (length bs) (subst (λ m. WritingAt bs m (folded (e .number)) end) n (parts .number)) number· (omega arith) (λ h. absurd (omega arith))
 
-pub last-is-read : (bs : List ℕ) (l : Last) → lastEntry bs ≡ Some l → LastRead bs l
+last-is-read : (bs : List ℕ) (l : Last) → lastEntry bs ≡ Some l → LastRead bs l
 unfolding lastEntry
 last-is-read bs l e =
     let one = found (lastStart bs (length bs)) _ l e in

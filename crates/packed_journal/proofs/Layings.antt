@@ -41,7 +41,7 @@ unfolding readFrom
 read-end zero bs at older h = refl
 read-end (suc most) bs at older h = ap (λ t. cond t (Ok older) (andThen (entryAt bs at) (λ p. readFrom most bs (p .end) (p .entry ∷ older)))) (le-leb (length bs) at h)
 
-pub read-step : (most : ℕ) (bs : List ℕ) (at : ℕ) (older : List Entry) (r : Result Placed LayRefusal) → at < length bs → entryAt bs at ≡ r
+read-step : (most : ℕ) (bs : List ℕ) (at : ℕ) (older : List Entry) (r : Result Placed LayRefusal) → at < length bs → entryAt bs at ≡ r
     → readFrom (suc most) bs at older ≡ andThen r (λ p. readFrom most bs (p .end) (p .entry ∷ older))
 unfolding readFrom
 read-step most bs at older r h e =
@@ -104,12 +104,12 @@ read-sound (suc most) bs at older es h e =
     (cases-lt at (length bs))
 
 -- all bytes
-pub all-read : (bs : List ℕ) (es : List Entry) → bs ≡ packed es → readAll bs ≡ Ok es
+all-read : (bs : List ℕ) (es : List Entry) → bs ≡ packed es → readAll bs ≡ Ok es
 unfolding readAll packed
 all-read bs es e =
     read-written (length bs) bs 0 [] (reverse es) e (omega arith) ∙ ap Ok (append-nil (reverse (reverse es)) ∙ reverse-reverse es)
 
-pub all-written : (bs : List ℕ) (es : List Entry) → readAll bs ≡ Ok es → bs ≡ packed es
+all-written : (bs : List ℕ) (es : List Entry) → readAll bs ≡ Ok es → bs ≡ packed es
 unfolding readAll packed
 all-written bs es e =
     let r = read-sound (length bs) bs 0 [] es (omega arith) e in

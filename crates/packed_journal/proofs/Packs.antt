@@ -5,7 +5,7 @@ use Prim.Native.Nat.{ℕ, zero, suc, _+_, _-_, _≤_, _<_}
 use native.Mathlib.Omega.{arith}
 use lib.ListN.{length, take}
 use Rattle.std.specs.Joined.{joined}
-use Rattle.std.proofs.shelf.Lists.{append-nil, drop-at, length-append, length-take, nil-from-length, take-at, joined-more}
+use Rattle.std.proofs.shelf.Lists.{append-assoc, append-nil, drop-at, length-append, length-take, nil-from-length, take-all, take-at, take-take, joined-more}
 use Rattle.std.specs.declared.option.Option.{Option}
 use Rattle.std.specs.declared.option.Option.the-variants.{Some, None}
 use Rattle.varint.proofs.Writings.{size-least}
@@ -17,7 +17,7 @@ use Rattle.packed_journal.specs.declared.last.Last.{Last}
 use Rattle.packed_journal.specs.Packing.{packed, lastEntry, lastStart, entriesBefore, entriesWithin, entriesOf, foreign}
 use Rattle.packed_journal.proofs.Lasts.{read-is-last, last-bytes}
 
-pub packed-push : (e : Entry) (es : List Entry) → packed (e ∷ es) ≡ packed es ++ entryBytes e
+packed-push : (e : Entry) (es : List Entry) → packed (e ∷ es) ≡ packed es ++ entryBytes e
 unfolding packed
 packed-push e es = ap (joined entryBytes) (reverse-append (e ∷ []) es) ∙ sym (joined-more entryBytes [] (reverse es) e)
 
@@ -28,7 +28,7 @@ pub entry-long : (e : Entry) → 0 < length (entryBytes e)
 entry-long e = omega (arith, length-entry e, size-least (e .owner))
 
 -- an entry behind other bytes is the last one
-pub last-of-pushed : (bs : List ℕ) (e : Entry) → lastEntry (bs ++ entryBytes e) ≡ Some (record { entry = e; start = length bs })
+last-of-pushed : (bs : List ℕ) (e : Entry) → lastEntry (bs ++ entryBytes e) ≡ Some (record { entry = e; start = length bs })
 last-of-pushed bs e =
     read-is-last (bs ++ entryBytes e) (length bs) (record { entry = e; end = length bs + length (entryBytes e) })
     (read-entry-bytes (bs ++ entryBytes e) [] (length bs) e tt (drop-at bs (entryBytes e) (length bs) refl ∙ sym (append-nil (entryBytes e))))
@@ -112,3 +112,27 @@ foreign-of-popped bs l e =
 pub foreign-of-pushed : (bs : List ℕ) (e : Entry) → foreign (bs ++ entryBytes e) ≡ foreign bs
 foreign-of-pushed bs e =
     omega (arith, length-append bs (entryBytes e), ap (λ t. length (packed t)) (entries-of-pushed bs e), length-packed-push e (entriesOf bs))
+
+-- the foreign bytes come first, and then the entries' own
+before-own-by : (bs : List ℕ) (o : Option Last) → lastEntry bs ≡ o → ((rs : List ℕ) → length rs < length bs → rs ≡ take (foreign rs) rs ++ packed (entriesOf rs)) → bs ≡ take (foreign bs) bs ++ packed (entriesOf bs)
+unfolding packed
+before-own-by bs None e more =
+    let none = entries-none bs e in
+    let all : length bs ≤ foreign bs = omega (arith, ap (λ t. length (packed t)) none) in
+    sym (ap (λ t. take (foreign bs) bs ++ packed t) none ∙ append-nil (take (foreign bs) bs) ∙ take-all (foreign bs) bs all)
+before-own-by bs (Some l) e more =
+    let h = last-before bs l e in
+    let rs : List ℕ = take (l .start) bs in
+    let f : foreign (take (l .start) bs) ≡ foreign bs = foreign-of-popped bs l e in
+    let k : foreign bs ≤ l .start = omega (arith, f, h .1, foreign-and-own (take (l .start) bs)) in
+    let front : take (foreign rs) rs ≡ take (foreign bs) bs = ap (λ n. take n rs) f ∙ take-take (foreign bs) (l .start) bs k in
+    last-bytes bs l e ∙ ap (λ t. t ++ entryBytes (l .entry)) (more rs (omega (arith, h .0, h .1)) ∙ ap (λ t. t ++ packed (entriesOf rs)) front)
+    ∙ append-assoc (take (foreign bs) bs) (packed (entriesOf rs)) (entryBytes (l .entry))
+    ∙ ap (λ t. take (foreign bs) bs ++ t) (sym (packed-push (l .entry) (entriesOf rs)) ∙ ap packed (sym (entries-some bs l e)))
+
+before-own : (f : ℕ) (bs : List ℕ) → length bs ≤ f → bs ≡ take (foreign bs) bs ++ packed (entriesOf bs)
+before-own zero bs h = before-own-by bs (lastEntry bs) refl (λ rs l. absurd (omega arith))
+before-own (suc f) bs h = before-own-by bs (lastEntry bs) refl (λ rs l. before-own f rs (omega arith))
+
+pub foreign-before-own : (bs : List ℕ) → bs ≡ take (foreign bs) bs ++ packed (entriesOf bs)
+foreign-before-own bs = before-own (length bs) bs (omega arith)

@@ -13,12 +13,12 @@ use Rattle.journal.specs.declared.refusal.LayRefusal.the-variants.{UsedBeyondEn
 use Rattle.entry_codec.specs.Reading.{andThen, entryAt}
 use Rattle.packed_journal.specs.Packing.{packed, bytesFit, entriesOf, shown, foreign, room}
 
--- the entries from a place on, after the older ones, or the first refusal; a place for each byte is enough
+-- the entries from a place on, at most `most` of them, on top of the older ones; or the first refusal
 unfoldable pub readFrom : ℕ → List ℕ → ℕ → List Entry → Result (List Entry) LayRefusal
 readFrom zero bs at older = Ok older
 readFrom (suc most) bs at older = cond (leb (length bs) at) (Ok older) (andThen (entryAt bs at) (λ p. readFrom most bs (p .end) (p .entry ∷ older)))
 
--- all bytes as entries
+-- all bytes as entries: each entry takes a byte at least
 unfoldable pub readAll : List ℕ → Result (List Entry) LayRefusal
 readAll bs = readFrom (length bs) bs 0 []
 
@@ -37,6 +37,7 @@ pub record Laid (bs : List ℕ) (used : ℕ) : Type 0 where
   pub writing : take used bs ≡ packed (shown used bs)
   pub rule : room used bs ≡ bytesFit (length bs)
 
+-- what laying answers: the journal is as said, or the rules give the refusal
 abbrev pub LaidOn : {J : Type 0} → List ℕ → ℕ → Result J LayRefusal → Type 0
 LaidOn bs used (Ok j) = Laid bs used
 LaidOn bs used (Err refusal) = laid bs used ≡ Err refusal

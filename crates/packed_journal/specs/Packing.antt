@@ -29,10 +29,12 @@ unfoldable pub lastStart : List ℕ → ℕ → Option ℕ
 lastStart bs zero = None
 lastStart bs (suc n) = cond (ltb (getD bs n 0) 128) (Some n) (lastStart bs n)
 
-abbrev pub andThen : {X Y : Type 0} → Option X → (X → Option Y) → Option Y
-andThen None next = None
-andThen (Some x) next = next x
+-- go on with what was found
+abbrev pub ifFound : {X Y : Type 0} → Option X → (X → Option Y) → Option Y
+ifFound None next = None
+ifFound (Some x) next = next x
 
+-- the entry that was read from its start on, if one was
 abbrev pub lastFrom : ℕ → Result Placed LayRefusal → Option Last
 lastFrom start (Ok p) = Some (record { entry = p .entry; start = start })
 lastFrom start (Err refusal) = None
@@ -40,20 +42,22 @@ lastFrom start (Err refusal) = None
 -- the entry whose three numbers are the last ones
 unfoldable pub lastEntry : List ℕ → Option Last
 lastEntry bs =
-    andThen (lastStart bs (length bs)) (λ number.
-    andThen (lastStart bs number) (λ kind.
-    andThen (lastStart bs kind) (λ start.
+    ifFound (lastStart bs (length bs)) (λ number.
+    ifFound (lastStart bs number) (λ kind.
+    ifFound (lastStart bs kind) (λ start.
     lastFrom start (entryAt bs start))))
 
--- the entries that are found so, one before the other, at most so many
+-- the last entry, and the older ones from its start down
 abbrev pub entriesBefore : (ℕ → List Entry) → Option Last → List Entry
 entriesBefore older None = []
 entriesBefore older (Some last) = last .entry ∷ older (last .start)
 
+-- the entries that are found so, at most `most` of them
 unfoldable pub entriesWithin : ℕ → List ℕ → List Entry
 entriesWithin zero bs = []
 entriesWithin (suc most) bs = entriesBefore (λ start. entriesWithin most (take start bs)) (lastEntry bs)
 
+-- all entries that are found from the end of bytes down, the newest first
 unfoldable pub entriesOf : List ℕ → List Entry
 entriesOf bs = entriesWithin (length bs) bs
 
@@ -61,7 +65,7 @@ entriesOf bs = entriesWithin (length bs) bs
 abbrev pub shown : ℕ → List ℕ → List Entry
 shown used bs = entriesOf (take used bs)
 
--- how many of them no entry has: none where the journal was laid
+-- how many of the used bytes belong to no entry: none where the journal was laid
 abbrev pub foreign : List ℕ → ℕ
 foreign held = length held - length (packed (entriesOf held))
 

@@ -1,16 +1,22 @@
 // A journal in lent bytes, the oldest entry first.
 ghost use mathlib.Core.Path.{_≡_};
+ghost use Prim.Native.Nat.{min};
+ghost use lib.ListN.{length, take};
 ghost use denote.Ref.{now};
 ghost use Rattle.std.specs.Results.{Cases};
+ghost use Rattle.std.specs.declared.result.Result.the-variants.{Err};
 ghost use Rattle.journal.specs.Meaning.{pushAnswer, pushed, newestOf, olderOf};
-ghost use Rattle.packed_journal.specs.Packing.{shown, room};
-ghost use Rattle.packed_journal.specs.Laying.{LaidOn, YieldEachOtherBack, OneWriting};
-ghost use Rattle.packed_journal.specs.Calls.{LastOf, Appended, written};
+ghost use Rattle.varint.specs.Written.{Written};
+ghost use Rattle.entry_codec.specs.Writing.{entryBytes};
+ghost use Rattle.packed_journal.specs.Packing.{packed, shown, foreign, room};
+ghost use Rattle.packed_journal.specs.Laying.{laid, Laid, LaidOn, YieldEachOtherBack, OneWriting};
+ghost use Rattle.packed_journal.specs.Calls.{LastOf, Appended};
 use entry_codec::write_entry;
 use journal::entry::Entry;
 use journal::journal::Full;
 use journal::journal::Journal;
 use journal::refusal::LayRefusal;
+use journal::refusal::Refused;
 use last::Last;
 use last::last_entry;
 use laying::read_through;
@@ -39,26 +45,43 @@ pub fn ask(bytes: &[u8], used: usize) -> Result<(), LayRefusal>
 }
 
 impl<'a> PackedJournal<'a> {
-    // The journal on bytes of which the first `used` hold entries already.
-    pub fn lay(bytes: &'a mut [u8], used: usize) -> Result<PackedJournal<'a>, LayRefusal>
-        ensures answer { λ r. ⌜ LaidOn (now (bytes .entry)) used r ⌝ }
-        ensures bytes { λ r. ⌜ Cases r (λ j. (j .used ≡ used) × (now (j .bytes) ≡ now (bytes .entry))) (λ _. Unit {0}) ⌝ }
+    // The journal on bytes of which the first `used` hold entries already, or the bytes back.
+    pub fn lay(bytes: &'a mut [u8], used: usize) -> Result<PackedJournal<'a>, Refused<&'a mut [u8]>>
+        ensures answer { λ r. ⌜ Cases r (λ j. Laid (now (bytes .entry)) used) (λ u. laid (now (bytes .entry)) used ≡ Err (u .refusal)) ⌝ }
+        ensures bytes { λ r. ⌜ Cases r (λ j. (j .used ≡ used) × (now (j .bytes) ≡ now (bytes .entry))) (λ u. now (u .back) ≡ now (bytes .entry)) ⌝ }
         ensures back { λ _. ⌜ YieldEachOtherBack ⌝ }
         ensures unique { λ _. ⌜ OneWriting ⌝ }
     {
         match ask(bytes, used) {
             Ok(()) => Ok(PackedJournal { bytes, used }),
-            Err(refusal) => Err(refusal),
+            Err(refusal) => Err(Refused {
+                back: bytes,
+                refusal,
+            }),
         }
+    }
+
+    // The bytes that hold the entries.
+    pub fn used_bytes(&self) -> &[u8]
+        ensures bytes { λ r. ⌜ now r ≡ take (now (self .entry) .used) (now (now (self .entry) .bytes)) ⌝ }
+        ensures writing { λ r. ⌜ (foreign (take (now (self .entry) .used) (now (now (self .entry) .bytes))) ≡ 0 → now r ≡ packed (shown (now (self .entry) .used) (now (now (self .entry) .bytes)))) ⌝ }
+    {
+        front(self.bytes, self.used)
     }
 
     fn last(&self) -> Option<Last>
         ensures { λ r. ⌜ LastOf (now (now (self .entry) .bytes)) (now (self .entry) .used) r ⌝ }
     {
-        let used = self.used.min(self.bytes.len());
-        let held = &self.bytes[0..used];
-        last_entry(held)
+        last_entry(self.used_bytes())
     }
+}
+
+// The first bytes, at most so many.
+fn front(bytes: &[u8], most: usize) -> &[u8]
+    ensures bytes { λ r. ⌜ now r ≡ take most (now (bytes .entry)) ⌝ }
+    ensures writing { λ r. ⌜ (foreign (take most (now (bytes .entry))) ≡ 0 → now r ≡ packed (shown most (now (bytes .entry)))) ⌝ }
+{
+    &bytes[0..most.min(bytes.len())]
 }
 
 // Writes an entry behind the used bytes, and answers how many are used then.
@@ -83,7 +106,7 @@ pub impl<'a> Journal for PackedJournal<'a> as PackedJournalJournal {
         ensures list { λ _. ⌜ shown (now (self .exit) .used) (now (now (self .exit) .bytes)) ≡ pushed (room (now (self .entry) .used) (now (now (self .entry) .bytes))) (shown (now (self .entry) .used) (now (now (self .entry) .bytes))) entry ⌝ }
         ensures rule { λ _. ⌜ room (now (self .exit) .used) (now (now (self .exit) .bytes)) ≡ room (now (self .entry) .used) (now (now (self .entry) .bytes)) ⌝ }
         ensures full { λ r. ⌜ Cases r (λ _. Unit {0}) (λ _. now (self .exit) ≡ now (self .entry)) ⌝ }
-        ensures bytes { λ r. ⌜ Cases r (λ _. now (now (self .exit) .bytes) ≡ written (now (now (self .entry) .bytes)) (now (self .entry) .used) entry) (λ _. Unit {0}) ⌝ }
+        ensures bytes { λ r. ⌜ Cases r (λ _. Written (now (now (self .entry) .bytes)) (min (now (self .entry) .used) (length (now (now (self .entry) .bytes)))) (entryBytes entry) (now (self .exit) .used) (now (now (self .exit) .bytes))) (λ _. Unit {0}) ⌝ }
     {
         let used = self.used;
         match append(self.bytes, used, entry) {

@@ -6,9 +6,9 @@ ghost use lib.ListN.{length};
 ghost use Rattle.std.specs.Of.Vec.{vec-items};
 ghost use Rattle.std.specs.Vec.{made};
 ghost use Rattle.std.specs.declared.option.Option.the-variants.{Some, None};
-ghost use Rattle.piles.specs.Trips.{recorded};
+ghost use Rattle.batch.specs.Runs.{recorded};
 use batch::into_entries;
-use batch::record_all;
+use batch::record_until_full;
 use delta_journal::Delta;
 use delta_journal::DeltaJournal;
 use journal::entry::Entry;
@@ -26,7 +26,7 @@ pub fn round_trip<J: Journal + Drop>(
 ) -> Result<Vec<Entry>, AllocError>
     ensures { λ r. ⌜ made r (λ v. vec-items v ≡ recorded (fits journal) (entries journal) (now (batch .entry))) ⌝ }
 {
-    record_all(&mut journal, batch);
+    record_until_full(&mut journal, batch);
     into_entries(journal, heap)
 }
 

@@ -8,7 +8,7 @@ use lib.ListN.{length, take}
 use Rattle.std.specs.declared.option.Option.{Option}
 use Rattle.std.specs.declared.option.Option.the-variants.{Some, None}
 use Rattle.journal.specs.declared.entry.Entry.{Entry}
-use Rattle.slot_journal.specs.declared.Placed.{Placed}
+use Rattle.slot_journal.specs.declared.Newest.{Newest}
 
 -- the entries in the first n places, the newest first
 abbrev pub held : ℕ → List Entry → List Entry
@@ -19,6 +19,6 @@ abbrev pub placesEnough : List Entry → List Entry → Bool
 placesEnough slots l = leb (length l) (length slots)
 
 -- the newest entry of the first n places, and its place, if there is one
-abbrev pub NewestPlace : List Entry → ℕ → Option Placed → Type 0
+abbrev pub NewestPlace : List Entry → ℕ → Option Newest → Type 0
 NewestPlace slots n None = held n slots ≡ []
 NewestPlace slots n (Some p) = held n slots ≡ p .entry ∷ held (p .place) slots

@@ -3,8 +3,10 @@ ghost use Prim.Native.Nat.{_+_, _<_};
 ghost use mathlib.Core.Bool.{true};
 ghost use mathlib.Core.List.{[], _∷_};
 ghost use mathlib.Core.Path.{_≡_};
-ghost use lib.ListN.{length};
+ghost use lib.ListN.{length, set};
 ghost use denote.Ref.{now};
+ghost use Rattle.std.specs.Results.{Cases};
+ghost use Rattle.journal.specs.Meaning.{pushAnswer, pushed, newestOf, olderOf};
 ghost use Rattle.slot_journal.specs.Slots.{held, placesEnough, NewestPlace};
 use journal::entry::Entry;
 use journal::journal::Full;
@@ -17,9 +19,9 @@ pub struct SlotJournal<'a> {
     len: usize,
 }
 
-// An entry and where it stands.
+// The newest entry and where it stands.
 #[derive(Clone, Copy)]
-struct Placed {
+struct Newest {
     entry: Entry,
     place: usize,
 }
@@ -42,15 +44,14 @@ impl<'a> SlotJournal<'a> {
         self.len < self.slots.len()
     }
 
-    // The newest entry and its place.
-    fn last(&self) -> Option<Placed>
+    fn last(&self) -> Option<Newest>
         ensures { λ r. ⌜ NewestPlace (now (now (self .entry) .slots)) (now (self .entry) .len) r ⌝ }
     {
         let used = self.len.min(self.slots.len());
         if used == 0 {
             return None;
         }
-        Some(Placed {
+        Some(Newest {
             entry: self.slots[used - 1],
             place: used - 1,
         })
@@ -62,6 +63,7 @@ fn put(slots: &mut [Entry], place: usize, entry: Entry)
     requires { ⌜ place < length (now slots) ⌝ }
     ensures list { λ _. ⌜ held (place + 1) (now (slots .exit)) ≡ entry ∷ held place (now (slots .entry)) ⌝ }
     ensures rule { λ _. ⌜ placesEnough (now (slots .exit)) ≡ placesEnough (now (slots .entry)) ⌝ }
+    ensures places { λ _. ⌜ now (slots .exit) ≡ set (now (slots .entry)) place entry ⌝ }
 {
     slots[place] = entry;
 }
@@ -71,7 +73,14 @@ pub impl<'a> Journal for SlotJournal<'a> as SlotJournalJournal {
 
     ghost fits = { λ s. placesEnough (now (s .slots)) };
 
-    fn push(&mut self, entry: Entry) -> Result<(), Full> {
+    // As the trait has it; and only the place of the entry is written.
+    fn push(&mut self, entry: Entry) -> Result<(), Full>
+        ensures answer { λ r. ⌜ r ≡ pushAnswer (placesEnough (now (now (self .entry) .slots))) (held (now (self .entry) .len) (now (now (self .entry) .slots))) entry ⌝ }
+        ensures list { λ _. ⌜ held (now (self .exit) .len) (now (now (self .exit) .slots)) ≡ pushed (placesEnough (now (now (self .entry) .slots))) (held (now (self .entry) .len) (now (now (self .entry) .slots))) entry ⌝ }
+        ensures rule { λ _. ⌜ placesEnough (now (now (self .exit) .slots)) ≡ placesEnough (now (now (self .entry) .slots)) ⌝ }
+        ensures full { λ r. ⌜ Cases r (λ _. Unit {0}) (λ _. now (self .exit) ≡ now (self .entry)) ⌝ }
+        ensures places { λ r. ⌜ Cases r (λ _. now (now (self .exit) .slots) ≡ set (now (now (self .entry) .slots)) (now (self .entry) .len) entry) (λ _. Unit {0}) ⌝ }
+    {
         if !self.has_room(entry) {
             return Err(Full);
         }
@@ -88,7 +97,13 @@ pub impl<'a> Journal for SlotJournal<'a> as SlotJournalJournal {
         }
     }
 
-    fn pop(&mut self) -> Option<Entry> {
+    // As the trait has it; and the table keeps its contents.
+    fn pop(&mut self) -> Option<Entry>
+        ensures answer { λ r. ⌜ r ≡ newestOf (held (now (self .entry) .len) (now (now (self .entry) .slots))) ⌝ }
+        ensures list { λ _. ⌜ held (now (self .exit) .len) (now (now (self .exit) .slots)) ≡ olderOf (held (now (self .entry) .len) (now (now (self .entry) .slots))) ⌝ }
+        ensures rule { λ _. ⌜ placesEnough (now (now (self .exit) .slots)) ≡ placesEnough (now (now (self .entry) .slots)) ⌝ }
+        ensures places { λ _. ⌜ now (now (self .exit) .slots) ≡ now (now (self .entry) .slots) ⌝ }
+    {
         let last = self.last()?;
         self.len = last.place;
         Some(last.entry)

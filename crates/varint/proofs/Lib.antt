@@ -1,3 +1,4 @@
 pub mod Writings
+pub mod WrittenBytes
 pub mod Readings
 pub mod Foldings

@@ -7,7 +7,7 @@ use Prim.Native.Nat.{ℕ, zero, suc, _+_, _-_, _*_, _/_, _%_, _≤_, _<_}
 use native.Mathlib.Omega.{arith}
 use lib.Dec.{ltb, leb, eqb}
 use lib.ListN.{length, getD, take, drop}
-use Rattle.std.proofs.shelf.Lists.{getD-drop, getD-append-left, drop-more, drop-all, drop-drop, drop-at, append-nil, append-cancel-right, length-append, length-drop, length-take-le, take-at}
+use Rattle.std.proofs.shelf.Lists.{getD-drop, getD-append-left, drop-more, drop-all, drop-drop, append-nil, append-cancel-right, length-append, length-drop}
 use Rattle.std.proofs.shelf.Tests.{ltb-true, lt-ltb, le-ltb, le-leb, lt-leb, eqb-true, eq-eqb, and-parts, and-from, and-left, and-right, cases-lt}
 use Rattle.std.specs.declared.result.Result.{Result}
 use Rattle.std.specs.declared.result.Result.the-variants.{Ok, Err}
@@ -15,7 +15,9 @@ use Rattle.varint.specs.declared.number.Fault.{Fault}
 use Rattle.varint.specs.declared.number.Fault.the-variants.{Malformed, Ended}
 use Rattle.varint.specs.declared.number.Reading.{Reading}
 use Rattle.varint.specs.Writings.{writing}
-use Rattle.varint.specs.Readings.{laterGroups, valueAfter, sameBytes, readingOf, judged, scannedIn, scanned, onlyShortest, numberAt, Ends, Own}
+use Rattle.varint.specs.Readings.{laterGroups, valueAfter, sameBytes, readingOf, judged, scannedIn, scanned, onlyShortest, numberAt, Ends, WritingAt}
+use Rattle.varint.specs.Written.{Written, ReadBack}
+use Rattle.varint.proofs.WrittenBytes.{written-there}
 use Rattle.varint.proofs.Writings.{writing-small, writing-step, writing-more, size-most}
 
 -- later groups at the front, and what follows them
@@ -26,7 +28,7 @@ later-stop bs n (inr h) =
     ap laterGroups (drop-more bs n 0 (h .0))
     ∙ ap (λ t. cond t [] (getD bs n 0 ∷ laterGroups (drop (n + 1) bs))) (lt-ltb (getD bs n 0) 128 (h .1))
 
-pub later-step : (bs : List ℕ) (n : ℕ) → n < length bs → 128 ≤ getD bs n 0 → laterGroups (drop n bs) ≡ getD bs n 0 ∷ laterGroups (drop (n + 1) bs)
+later-step : (bs : List ℕ) (n : ℕ) → n < length bs → 128 ≤ getD bs n 0 → laterGroups (drop n bs) ≡ getD bs n 0 ∷ laterGroups (drop (n + 1) bs)
 unfolding laterGroups
 later-step bs n h l =
     ap laterGroups (drop-more bs n 0 h)
@@ -53,7 +55,7 @@ later-ended (b ∷ bs) =
     elim (ltb b 128) as (λ t. ltb b 128 ≡ t → Ends (drop (length (cond t [] (b ∷ laterGroups bs))) (b ∷ bs)))
     [ true ↦ λ e. ltb-true b 128 e | false ↦ λ e. later-ended bs ] refl
 
-pub value-above : (v : ℕ) (bs : List ℕ) → v ≤ valueAfter v bs
+value-above : (v : ℕ) (bs : List ℕ) → v ≤ valueAfter v bs
 unfolding valueAfter
 value-above v [] = omega arith
 value-above v (b ∷ bs) = omega (arith, value-above (v * 128 + (b - 128)) bs)
@@ -87,14 +89,14 @@ judged-wrong at first later w =
     (⊎-elim (λ h. and-left (ltb first 128) _ (le-ltb first 128 h))
     (λ w. and-right (ltb first 128) _ (⊎-elim (λ h. and-left (leb (length later) 4) _ (lt-leb (length later) 4 h)) (λ h. and-right (leb (length later) 4) _ (le-ltb (valueAfter first later) 4294967296 h)) w)) w)
 
-pub judged-right : (at first : ℕ) (later : List ℕ) → first < 128 → length later ≤ 4 → valueAfter first later < 4294967296 → judged at first later ≡ Ok (readingOf at (valueAfter first later) (first ∷ later))
+judged-right : (at first : ℕ) (later : List ℕ) → first < 128 → length later ≤ 4 → valueAfter first later < 4294967296 → judged at first later ≡ Ok (readingOf at (valueAfter first later) (first ∷ later))
 judged-right at first later f l v =
     ap (λ t. cond t (Ok (readingOf at (valueAfter first later) (first ∷ later))) (Err (Malformed at)))
     (and-from (ltb first 128) _ (lt-ltb first 128 f) (and-from (leb (length later) 4) _ (le-leb (length later) 4 l) (lt-ltb (valueAfter first later) 4294967296 v)))
 
 -- what is accepted as the shortest is a writing
 own-judged : (bs : List ℕ) (at first v end : ℕ) (later : List ℕ) → at < length bs → first ≡ getD bs at 0 → later ≡ laterGroups (drop (at + 1) bs)
-    → v ≡ valueAfter first later → valueAfter first later < 4294967296 → end ≡ at + suc (length later) → sameBytes (writing v) (first ∷ later) ≡ true → Own bs at v end
+    → v ≡ valueAfter first later → valueAfter first later < 4294967296 → end ≡ at + suc (length later) → sameBytes (writing v) (first ∷ later) ≡ true → WritingAt bs at v end
 own-judged bs at first v end later h f l e u d s =
     let w : writing v ≡ first ∷ later = same-is (writing v) (first ∷ later) s in
     let k : at + 1 + length later ≡ end = omega arith in
@@ -109,12 +111,12 @@ own-judged bs at first v end later h f l e u d s =
       ended = subst Ends rest (later-ended (drop (at + 1) bs));
     }
 
-own-tested : (bs : List ℕ) (at : ℕ) (n : Reading) → at < length bs → judged at (getD bs at 0) (laterGroups (drop (at + 1) bs)) ≡ Ok n → n .shortest ≡ true → Own bs at (n .value) (n .end)
+own-tested : (bs : List ℕ) (at : ℕ) (n : Reading) → at < length bs → judged at (getD bs at 0) (laterGroups (drop (at + 1) bs)) ≡ Ok n → n .shortest ≡ true → WritingAt bs at (n .value) (n .end)
 own-tested bs at n h =
     let first : ℕ = getD bs at 0 in
     let later : List ℕ = laterGroups (drop (at + 1) bs) in
     let test : Bool = ltb first 128 && (leb (length later) 4 && ltb (valueAfter first later) 4294967296) in
-    elim test as (λ t. test ≡ t → cond t (Ok (readingOf at (valueAfter first later) (first ∷ later))) (Err (Malformed at)) ≡ Ok n → n .shortest ≡ true → Own bs at (n .value) (n .end)) [
+    elim test as (λ t. test ≡ t → cond t (Ok (readingOf at (valueAfter first later) (first ∷ later))) (Err (Malformed at)) ≡ Ok n → n .shortest ≡ true → WritingAt bs at (n .value) (n .end)) [
       | true ↦ λ e p s.
           let q : readingOf at (valueAfter first later) (first ∷ later) ≡ n = cc in
           let parts = and-parts (ltb first 128) _ e in
@@ -124,7 +126,7 @@ own-tested bs at n h =
       | false ↦ λ e p s. let z : _≡_ {A = ℕ} 0 1 = cc in absurd (omega arith)
     ] refl
 
-pub own-scanned : (bs : List ℕ) (at : ℕ) (n : Reading) → scanned bs at ≡ Ok n → n .shortest ≡ true → Own bs at (n .value) (n .end)
+pub own-scanned : (bs : List ℕ) (at : ℕ) (n : Reading) → scanned bs at ≡ Ok n → n .shortest ≡ true → WritingAt bs at (n .value) (n .end)
 own-scanned bs at n e s =
     ⊎-elim (λ h. own-tested bs at n h (sym (scanned-within bs at h) ∙ e) s)
     (λ h. let q : _≡_ {A = Result Reading Fault} (Err (Ended (length bs))) (Ok n) = sym (scanned-end bs at h) ∙ e in let z : _≡_ {A = ℕ} 0 1 = cc in absurd (omega arith))
@@ -144,7 +146,7 @@ first-above (suc f) v xs h p =
     (first-above f (v / 128) ((128 + v % 128) ∷ xs) (omega arith) (omega arith)))
     (cases-lt v 128)
 
-pub no-padding : (v g : ℕ) (gs : List ℕ) → writing v ≡ 0 ∷ g ∷ gs → ⊥
+no-padding : (v g : ℕ) (gs : List ℕ) → writing v ≡ 0 ∷ g ∷ gs → ⊥
 unfolding first-of
 no-padding v g gs e =
     ⊎-elim (λ p. omega (arith, first-above v v [] (omega arith) p, ap first-of (append-nil (writing v) ∙ e)))
@@ -152,13 +154,13 @@ no-padding v g gs e =
     (cases-lt 0 v)
 
 -- whether a writing is the shortest: the first group is not 0, or the only one
-pub shortest-padded : (v : ℕ) (later : List ℕ) → 0 < length later → sameBytes (writing v) (0 ∷ later) ≡ false
+shortest-padded : (v : ℕ) (later : List ℕ) → 0 < length later → sameBytes (writing v) (0 ∷ later) ≡ false
 shortest-padded v [] h = absurd (omega arith)
 shortest-padded v (g ∷ gs) h =
     elim (sameBytes (writing v) (0 ∷ g ∷ gs)) as (λ t. sameBytes (writing v) (0 ∷ g ∷ gs) ≡ t → t ≡ false)
     [ true ↦ λ e. absurd (no-padding v g gs (same-is (writing v) (0 ∷ g ∷ gs) e)) | false ↦ λ e. refl ] refl
 
-pub shortest-own : (bs : List ℕ) (at first v end : ℕ) → at < length bs → first ≡ getD bs at 0 → end ≡ at + suc (length (laterGroups (drop (at + 1) bs))) → drop at bs ≡ writing v ++ drop end bs
+shortest-own : (bs : List ℕ) (at first v end : ℕ) → at < length bs → first ≡ getD bs at 0 → end ≡ at + suc (length (laterGroups (drop (at + 1) bs))) → drop at bs ≡ writing v ++ drop end bs
     → sameBytes (writing v) (first ∷ laterGroups (drop (at + 1) bs)) ≡ true
 shortest-own bs at first v end h f d e =
     let later : List ℕ = laterGroups (drop (at + 1) bs) in
@@ -216,7 +218,7 @@ shape-within (suc f) n h =
     })
     (cases-lt n 128)
 
-pub shape : (n : ℕ) → Shape n
+shape : (n : ℕ) → Shape n
 shape n = shape-within n n (omega arith)
 
 -- a writing that ends is read, whatever stands before and after it
@@ -232,14 +234,9 @@ read-writing bs at n rest h e d =
     ∙ (λ i. Ok (readingOf at (p .value i) (sym (p .is) i))) in
     ap (onlyShortest at) found ∙ ap (λ t. cond t (Ok (n, at + length (writing n))) (Err (Malformed at))) (is-same (writing n))
 
-pub written-read-back : (xs ys : List ℕ) (at n end : ℕ) → end ≡ at + length (writing n) → end ≤ length xs → ys ≡ take at xs ++ (writing n ++ drop end xs) → n < 4294967296 → numberAt (take end ys) at ≡ Ok (n, end)
-written-read-back xs ys at n end e h w l =
-    let front : length (take at xs) ≡ at = length-take-le at xs (omega arith) in
-    let cut : take end ys ≡ take at xs ++ writing n =
-    ap (take end) (w ∙ sym (append-assoc (take at xs) (writing n) (drop end xs)))
-    ∙ take-at (take at xs ++ writing n) (drop end xs) end (length-append (take at xs) (writing n) ∙ ap (λ k. k + length (writing n)) front ∙ sym e) in
-    read-writing (take end ys) at n [] l tt (ap (drop at) cut ∙ drop-at (take at xs) (writing n) at front ∙ sym (append-nil (writing n)))
-    ∙ ap (λ k. Ok (n, k)) (sym e)
+pub written-read-back : (xs ys : List ℕ) (at n end : ℕ) → n < 4294967296 → Written xs at (writing n) end ys → ReadBack ys at n end
+written-read-back xs ys at n end l w =
+    read-writing (take end ys) at n [] l tt (written-there xs ys (writing n) at end w ∙ sym (append-nil (writing n))) ∙ ap (λ k. Ok (n, k)) (sym (w .ends))
 
 -- where a reader stands that began at the place `at` and has the value of what lies before `end`
 pub record Scanning (bs : List ℕ) (at end value : ℕ) : Type 0 where
@@ -310,17 +307,17 @@ scanning-ends bs at end value shortest s f stop yes· no· =
     ∙ ap (λ t. Ok (record { value = value; end = end; shortest = t })) flag
 
 -- what is read is a writing
-own-shortest : (bs : List ℕ) (at : ℕ) (r : Result Reading Fault) (v end : ℕ) → scanned bs at ≡ r → onlyShortest at r ≡ Ok (v, end) → Own bs at v end
+own-shortest : (bs : List ℕ) (at : ℕ) (r : Result Reading Fault) (v end : ℕ) → scanned bs at ≡ r → onlyShortest at r ≡ Ok (v, end) → WritingAt bs at v end
 own-shortest bs at (Ok n) v end e h =
-    elim (n .shortest) as (λ t. n .shortest ≡ t → cond {A = Result (ℕ × ℕ) Fault} t (Ok (n .value, n .end)) (Err (Malformed at)) ≡ Ok (v, end) → Own bs at v end) [
+    elim (n .shortest) as (λ t. n .shortest ≡ t → cond {A = Result (ℕ × ℕ) Fault} t (Ok (n .value, n .end)) (Err (Malformed at)) ≡ Ok (v, end) → WritingAt bs at v end) [
       | true ↦ λ s p.
           let q : _≡_ {A = ℕ × ℕ} (n .value, n .end) (v, end) = cc in
-          subst (λ x. Own bs at (x .0) (x .1)) q (own-scanned bs at n e s)
+          subst (λ x. WritingAt bs at (x .0) (x .1)) q (own-scanned bs at n e s)
       | false ↦ λ s p. let z : _≡_ {A = ℕ} 0 1 = cc in absurd (omega arith)
     ] refl h
 own-shortest bs at (Err fault) v end e p = let z : _≡_ {A = ℕ} 0 1 = cc in absurd (omega arith)
 
-pub own-number : (bs : List ℕ) (at v end : ℕ) → numberAt bs at ≡ Ok (v, end) → Own bs at v end
+pub own-number : (bs : List ℕ) (at v end : ℕ) → numberAt bs at ≡ Ok (v, end) → WritingAt bs at v end
 own-number bs at v end e = own-shortest bs at (scanned bs at) v end refl e
 
 -- a writing begins with a first byte
@@ -333,11 +330,11 @@ later-at [] j h l = absurd (omega arith)
 later-at (b ∷ bs) zero h l = h .0
 later-at (b ∷ bs) (suc j) h l = later-at bs j (h .1) (omega arith)
 
-pub own-length : (bs : List ℕ) (at v end : ℕ) → Own bs at v end → end ≡ at + length (writing v)
+own-length : (bs : List ℕ) (at v end : ℕ) → WritingAt bs at v end → end ≡ at + length (writing v)
 own-length bs at v end o =
     omega (arith, o .forward, o .within, ap length (o .bytes) ∙ length-append (writing v) (drop end bs), length-drop at bs, length-drop end bs)
 
-pub own-first : (bs : List ℕ) (at v end : ℕ) → Own bs at v end → getD bs at 0 < 128
+pub own-first : (bs : List ℕ) (at v end : ℕ) → WritingAt bs at v end → getD bs at 0 < 128
 own-first bs at v end o =
     let p = shape v in
     let h : at < length bs = omega (arith, o .forward, o .within) in
@@ -345,7 +342,7 @@ own-first bs at v end o =
     let q : getD bs at 0 ≡ p .first = cc in
     omega (arith, p .small)
 
-pub own-later : (bs : List ℕ) (at v end i : ℕ) → Own bs at v end → at < i → i < end → 128 ≤ getD bs i 0
+pub own-later : (bs : List ℕ) (at v end i : ℕ) → WritingAt bs at v end → at < i → i < end → 128 ≤ getD bs i 0
 own-later bs at v end i o l u =
     let p = shape v in
     let j : ℕ = i - at - 1 in
@@ -357,5 +354,5 @@ own-later bs at v end i o l u =
     ∙ getD-append-left (p .later) (drop end bs) 0 (i - at - 1) short in
     omega (arith, later-at (p .later) (i - at - 1) (p .groups) short)
 
-pub own-next : (bs : List ℕ) (at v end : ℕ) → Own bs at v end → end < length bs → getD bs end 0 < 128
+pub own-next : (bs : List ℕ) (at v end : ℕ) → WritingAt bs at v end → end < length bs → getD bs end 0 < 128
 own-next bs at v end o h = subst Ends (drop-more bs end 0 h) (o .ended)

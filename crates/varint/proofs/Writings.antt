@@ -11,6 +11,7 @@ use lib.ListN.{length, getD, take, drop, set}
 use Rattle.std.proofs.shelf.Lists.{drop-more, length-push, length-append, length-take-le, set-split, set-at}
 use Rattle.std.proofs.shelf.Tests.{ltb-false, le-ltb, lt-ltb, cases-lt}
 use Rattle.varint.specs.Writings.{writingWithin, writing}
+use Rattle.varint.specs.Written.{Written}
 
 -- room for more groups than a number needs changes nothing
 within-same : (f g n : ℕ) → n ≤ f → n ≤ g → writingWithin f n ≡ writingWithin g n
@@ -57,7 +58,7 @@ pub size-step : (n : ℕ) → 128 ≤ n → length (writing n) ≡ length (writi
 size-step n h = ap length (writing-step n h) ∙ length-push (writing (n / 128)) (128 + n % 128)
 
 -- a number of k groups less the last has k - 1 of them, from `low / 128` to `high / 128`
-pub size-next : (n k low high : ℕ) → ((m : ℕ) → low ≤ m → m < high → length (writing m) ≡ k) → 0 < low → low * 128 ≤ n → n < high * 128 → length (writing n) ≡ k + 1
+size-next : (n k low high : ℕ) → ((m : ℕ) → low ≤ m → m < high → length (writing m) ≡ k) → 0 < low → low * 128 ≤ n → n < high * 128 → length (writing n) ≡ k + 1
 size-next n k low high f p l h = size-step n (omega arith) ∙ ap (λ s. s + 1) (f (n / 128) (omega arith) (omega arith))
 
 pub size-2 : (n : ℕ) → 128 ≤ n → n < 16384 → length (writing n) ≡ 2
@@ -83,20 +84,26 @@ size-most n h =
 pub size-least : (n : ℕ) → 0 < length (writing n)
 size-least n = ⊎-elim (λ h. omega (arith, size-small n h)) (λ h. omega (arith, size-step n h)) (cases-lt n 128)
 
--- the steps of a writer from the place `at` on: ys holds the writing of n / 128 up to the place `last`, and xs elsewhere
-pub put-small : (xs : List ℕ) (at n : ℕ) → at < length xs → n < 128 → set xs at n ≡ take at xs ++ (writing n ++ drop (at + 1) xs)
-put-small xs at n h l =
-    set-split xs at n h ∙ ap (λ k. take at xs ++ n ∷ drop k xs) (sym (add-one at)) ∙ ap (λ p. take at xs ++ (p ++ drop (at + 1) xs)) (sym (writing-small n l))
+-- the steps of a writer from the place `at` on: the last group is written behind the others
+pub put-small : (xs : List ℕ) (at n : ℕ) → at < length xs → n < 128 → Written xs at (writing n) (at + 1) (set xs at n)
+put-small xs at n h l = record {
+  ends = omega (arith, size-small n l);
+  within = omega arith;
+  bytes = set-split xs at n h ∙ ap (λ k. take at xs ++ n ∷ drop k xs) (sym (add-one at)) ∙ ap (λ p. take at xs ++ (p ++ drop (at + 1) xs)) (sym (writing-small n l));
+}
 
-pub put-more : (xs ys : List ℕ) (at last n : ℕ) → ys ≡ take at xs ++ (writing (n / 128) ++ drop last xs) → last ≡ at + length (writing (n / 128)) → last < length xs → 128 ≤ n
-    → set ys last (128 + n % 128) ≡ take at xs ++ (writing n ++ drop (last + 1) xs)
-put-more xs ys at last n e q h l =
+pub put-more : (xs ys : List ℕ) (at last n : ℕ) → Written xs at (writing (n / 128)) last ys → last < length xs → 128 ≤ n → Written xs at (writing n) (last + 1) (set ys last (128 + n % 128))
+put-more xs ys at last n w h l =
     let high : List ℕ = writing (n / 128) in
     let after : List ℕ = drop (last + 1) xs in
-    let a : length (take at xs ++ high) ≡ last = length-append (take at xs) high ∙ ap (λ k. k + length high) (length-take-le at xs (omega arith)) ∙ sym q in
-    ap (λ t. set t last (128 + n % 128))
-    (e ∙ sym (append-assoc (take at xs) high (drop last xs)) ∙ ap (λ t. (take at xs ++ high) ++ t) (drop-more xs last 0 h))
-    ∙ set-at (take at xs ++ high) (getD xs last 0) after (128 + n % 128) last a
-    ∙ append-assoc (take at xs) high ((128 + n % 128) ∷ after)
-    ∙ ap (λ t. take at xs ++ t) (sym (append-assoc high ((128 + n % 128) ∷ []) after))
-    ∙ ap (λ t. take at xs ++ (t ++ after)) (sym (writing-step n l))
+    let a : length (take at xs ++ high) ≡ last = length-append (take at xs) high ∙ ap (λ k. k + length high) (length-take-le at xs (omega (arith, w .ends))) ∙ sym (w .ends) in
+    record {
+      ends = omega (arith, size-step n l, w .ends);
+      within = omega arith;
+      bytes =
+          ap (λ t. set t last (128 + n % 128)) (w .bytes ∙ sym (append-assoc (take at xs) high (drop last xs)) ∙ ap (λ t. (take at xs ++ high) ++ t) (drop-more xs last 0 h))
+          ∙ set-at (take at xs ++ high) (getD xs last 0) after (128 + n % 128) last a
+          ∙ append-assoc (take at xs) high ((128 + n % 128) ∷ after)
+          ∙ ap (λ t. take at xs ++ t) (sym (append-assoc high ((128 + n % 128) ∷ []) after))
+          ∙ ap (λ t. take at xs ++ (t ++ after)) (sym (writing-step n l));
+    }

@@ -22,6 +22,7 @@ unfoldable pub valueAfter : ℕ → List ℕ → ℕ
 valueAfter v [] = v
 valueAfter v (b ∷ bs) = valueAfter (v * 128 + (b - 128)) bs
 
+-- whether two lists of bytes are the same
 unfoldable pub sameBytes : List ℕ → List ℕ → Bool
 sameBytes [] [] = true
 sameBytes [] (c ∷ cs) = false
@@ -44,6 +45,7 @@ abbrev pub scannedIn : ℕ → ℕ → List ℕ → Result Reading Fault
 scannedIn end at [] = Err (Ended end)
 scannedIn end at (b ∷ bs) = judged at b (laterGroups bs)
 
+-- what stands at a place of bs
 unfoldable pub scanned : List ℕ → ℕ → Result Reading Fault
 scanned bs at = scannedIn (length bs) at (drop at bs)
 
@@ -62,7 +64,7 @@ Ends [] = Unit {0}
 Ends (b ∷ bs) = b < 128
 
 -- what stands from the place `at` to the place `end` is the one writing of v, and it ends there
-pub record Own (bs : List ℕ) (at v end : ℕ) : Type 0 where
+pub record WritingAt (bs : List ℕ) (at v end : ℕ) : Type 0 where
   pub forward : at < end
   pub within : end ≤ length bs
   pub sized : v < 4294967296

@@ -5,7 +5,7 @@ ghost use mathlib.Core.Bool.{true};
 ghost use lib.ListN.{length, take};
 ghost use Rattle.std.specs.Vec.{made};
 ghost use Rattle.varint.specs.Writings.{writing};
-ghost use Rattle.varint.specs.Readings.{scanned, numberAt, Own};
+ghost use Rattle.varint.specs.Readings.{scanned, numberAt, WritingAt};
 ghost use Rattle.varint.specs.Written.{Written, Wrote, ReadBack};
 
 // Why no number can be read, with the place.
@@ -37,7 +37,7 @@ const MOST_BEFORE: u32 = 33_554_431;
 // The number that begins at a place, its end, and whether its writing is the shortest: which writings to take is the caller's choice.
 fn scan(bytes: &[u8], at: usize) -> Result<Reading, Fault>
     ensures answer { λ r. ⌜ r ≡ scanned (now (bytes .entry)) at ⌝ }
-    ensures own { λ r. ⌜ made r (λ n. (n .shortest ≡ true → Own (now (bytes .entry)) at (n .value) (n .end))) ⌝ }
+    ensures own { λ r. ⌜ made r (λ n. (n .shortest ≡ true → WritingAt (now (bytes .entry)) at (n .value) (n .end))) ⌝ }
 {
     if at >= bytes.len() {
         return Err(Fault::Ended(bytes.len()));
@@ -66,7 +66,7 @@ fn scan(bytes: &[u8], at: usize) -> Result<Reading, Fault>
 // The number that begins at a place, and the place after it. Only its shortest writing is a number.
 pub fn read(bytes: &[u8], at: usize) -> Result<(u32, usize), Fault>
     ensures answer { λ r. ⌜ r ≡ numberAt (now (bytes .entry)) at ⌝ }
-    ensures own { λ r. ⌜ made r (λ p. Own (now (bytes .entry)) at (p .0) (p .1)) ⌝ }
+    ensures own { λ r. ⌜ made r (λ p. WritingAt (now (bytes .entry)) at (p .0) (p .1)) ⌝ }
 {
     let number = scan(bytes, at)?;
     if !number.shortest {
@@ -102,7 +102,7 @@ pub fn size(n: u32) -> usize
 // Writes a number from a place on, and answers the place after it.
 fn put(bytes: &mut [u8], at: usize, n: u32) -> usize
     requires { ⌜ at + length (writing n) ≤ length (now bytes) ⌝ }
-    ensures written { λ r. ⌜ Written (now (bytes .entry)) at n r (now (bytes .exit)) ⌝ }
+    ensures written { λ r. ⌜ Written (now (bytes .entry)) at (writing n) r (now (bytes .exit)) ⌝ }
     ensures back { λ r. ⌜ ReadBack (now (bytes .exit)) at n r ⌝ }
 {
     if n < 128 {
@@ -117,7 +117,7 @@ fn put(bytes: &mut [u8], at: usize, n: u32) -> usize
 
 // Writes a number from a place on, and answers the place after it; where it does not fit, nothing is written.
 pub fn write(bytes: &mut [u8], at: usize, n: u32) -> Result<usize, NoRoom>
-    ensures answer { λ r. ⌜ Wrote (now (bytes .entry)) at n r (now (bytes .exit)) ⌝ }
+    ensures answer { λ r. ⌜ Wrote (now (bytes .entry)) at (writing n) r (now (bytes .exit)) ⌝ }
     ensures back { λ r. ⌜ made r (λ end. ReadBack (now (bytes .exit)) at n end) ⌝ }
 {
     let room = bytes.len();

@@ -1,3 +1,4 @@
+-- The three sizes add up.
 use mathlib.Core.Path.{ap, _∙_}
 use native.Mathlib.Omega.{arith}
 use mir.Syntax.{w32}

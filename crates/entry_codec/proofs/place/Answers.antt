@@ -1,3 +1,4 @@
+-- An owner in range is its own remainder, and a number that fits wraps to itself.
 use mathlib.Core.Path.{refl}
 use mir.Syntax.{w32}
 use Rattle.std.proofs.shelf.Signed.{toZ-ofZ}

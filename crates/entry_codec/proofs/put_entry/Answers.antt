@@ -1,3 +1,4 @@
+-- There is room for all three numbers.
 use mathlib.Core.Path.{ap, _∙_}
 use native.Mathlib.Omega.{arith}
 use mir.Syntax.{w32}
@@ -19,10 +20,8 @@ returns-in-Break-number-at c =
 
 pub returns : need.returns
 returns c =
-    let a = c .in-Continue-kind-at .ensures tt .answer in
-    let b = c .in-Continue-number-at .ensures tt .answer in
+    let number = c .fold .ensures .answer ∙ ap folded (toZ-ofZ w32 (c .args .entry .number) (number-fits (c .args .entry))) in
     let wrote = wrote-entry (c .args .bytes .now) (c .write .last .bytes) (c .write-2 .last .bytes) (c .write-3 .last .bytes) (c .args .at) (c .in-Continue-kind-at .kind-at) (c .in-Continue-number-at .number-at)
-    (c .from .result) (c .number .result) (c .fold .result) (c .args .entry) (c .write-3 .result)
-    (c .from .ensures) (c .number .ensures .answer) (c .fold .ensures .answer ∙ ap folded (toZ-ofZ w32 (c .args .entry .number) (number-fits (c .args .entry))))
-    (a .bytes) (a .ends) (b .bytes) (b .ends) (omega arith) (c .pre) (c .write-3 .ensures .answer) in
+    (c .from .result) (c .number .result) (c .fold .result) (c .args .entry) (c .write-3 .result) (c .from .ensures) (c .number .ensures .answer) number
+    (c .in-Continue-kind-at .ensures tt .answer) (c .in-Continue-number-at .ensures tt .answer) (c .write-3 .ensures .answer) (omega arith) (c .pre) in
     record { answer = wrote; back = wrote-read-back (c .args .bytes .now) (c .write-3 .last .bytes) (c .args .at) (c .args .entry) (c .write-3 .result) wrote }

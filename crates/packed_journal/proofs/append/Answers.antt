@@ -1,3 +1,4 @@
+-- The entry fits exactly where its bytes do.
 use native.Mathlib.Omega.{arith}
 use Rattle.packed_journal.proofs.Changes.{appended, not-appended}
 use Rattle.packed_journal.proofs.append.Needs as need

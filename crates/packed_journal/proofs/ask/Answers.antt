@@ -1,3 +1,4 @@
+-- The laws hold whatever is asked.
 use borrow.Author.Needs.{needs}
 use Rattle.packed_journal.proofs.Layings.{yield-each-other-back, one-writing}
 use Rattle.packed_journal.proofs.ask.Needs as need

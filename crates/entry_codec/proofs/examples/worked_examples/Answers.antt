@@ -1,3 +1,4 @@
+-- The definitions compute the examples.
 use mathlib.Core.Path.{refl}
 use mathlib.Core.List.{[], _∷_}
 use Rattle.varint.specs.Writings.{writing, writingWithin}
@@ -9,4 +10,4 @@ use Rattle.entry_codec.proofs.examples.worked_examples.Needs as need
 
 pub returns : need.returns
 unfolding writing writingWithin scanned laterGroups valueAfter sameBytes entryBytes
-returns c = record { number = refl; numberRead = refl; padded = refl; missing = refl; folding = refl; entry = refl; entryRead = read-entry-bytes (10 ∷ 4 ∷ 2 ∷ 172 ∷ []) [] 0 stored tt refl }
+returns c = record { number = refl; numberRead = refl; padded = refl; missing = refl; folding = refl; unfoldingBack = refl; entry = refl; entryRead = read-entry-bytes (10 ∷ 4 ∷ 2 ∷ 172 ∷ []) [] 0 stored tt refl }

@@ -1,3 +1,4 @@
+-- The code looks for the three starts as the definition does.
 use borrow.Author.Needs.{needs}
 use Rattle.packed_journal.specs.Packing.{lastEntry}
 use Rattle.packed_journal.proofs.last.last_entry.Needs as need

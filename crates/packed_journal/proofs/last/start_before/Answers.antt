@@ -1,3 +1,4 @@
+-- One place down at a time.
 use mathlib.Core.Path.{sym, ap, _≡_, _∙_}
 use native.Mathlib.Omega.{arith}
 use Rattle.packed_journal.specs.Packing.{lastStart}

@@ -1,3 +1,4 @@
+-- No number begins at the places that were passed.
 use mathlib.Core.Path.{_≡_}
 use Rattle.packed_journal.specs.Packing.{lastStart}
 use Rattle.packed_journal.proofs.last.start_before.Given as given

@@ -1,3 +1,4 @@
+-- Entry by entry, until the bytes end or one is refused.
 use mathlib.Core.Path.{refl, sym, _∙_}
 use mathlib.Core.List.{[], _∷_}
 use native.Mathlib.Omega.{arith}

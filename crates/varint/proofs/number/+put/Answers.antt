@@ -1,4 +1,4 @@
-use Prim.Native.Nat.{_+_}
+-- A number is put group by group, the last one behind the others.
 use native.Mathlib.Omega.{arith}
 use Rattle.varint.proofs.Writings.{size-small, size-step, put-small, put-more}
 use Rattle.varint.proofs.Readings.{written-read-back}
@@ -15,19 +15,11 @@ index-bytes-last t c = omega (arith, size-step (c .args .n) (omega arith), c .pu
 
 pub returns-then-n-lt128 : need.returns-then-n-lt128
 returns-then-n-lt128 t c =
-    let s = size-small (c .args .n) (omega arith) in
-    let p = put-small (c .args .bytes .now) (c .args .at) (c .args .n) (omega (arith, s)) (omega arith) in
-    record {
-      written = record { ends = omega (arith, s); within = omega (arith, s); bytes = p };
-      back = written-read-back (c .args .bytes .now) _ (c .args .at) (c .args .n) (c .args .at + 1) (omega (arith, s)) (omega (arith, s)) p (omega arith);
-    }
+    let w = put-small (c .args .bytes .now) (c .args .at) (c .args .n) (omega (arith, size-small (c .args .n) (omega arith))) (omega arith) in
+    record { written = w; back = written-read-back (c .args .bytes .now) _ (c .args .at) (c .args .n) _ (omega arith) w }
 
 pub returns-else-n-lt128 : need.returns-else-n-lt128
 returns-else-n-lt128 t c =
-    let s = size-step (c .args .n) (omega arith) in
-    let w = c .put-last .ensures .written in
-    let p = put-more (c .args .bytes .now) (c .put-last .last .bytes) (c .args .at) (c .put-last .result) (c .args .n) (w .bytes) (w .ends) (omega (arith, s, w .ends)) (omega arith) in
-    record {
-      written = record { ends = omega (arith, s, w .ends); within = omega (arith, s, w .ends); bytes = p };
-      back = written-read-back (c .args .bytes .now) _ (c .args .at) (c .args .n) (c .put-last .result + 1) (omega (arith, s, w .ends)) (omega (arith, s, w .ends)) p (omega arith);
-    }
+    let v = c .put-last .ensures .written in
+    let w = put-more (c .args .bytes .now) (c .put-last .last .bytes) (c .args .at) (c .put-last .result) (c .args .n) v (omega (arith, size-step (c .args .n) (omega arith), v .ends)) (omega arith) in
+    record { written = w; back = written-read-back (c .args .bytes .now) _ (c .args .at) (c .args .n) _ (omega arith) w }

@@ -1,3 +1,4 @@
+-- How long a writing is, by the size of the number.
 use mathlib.Core.Path.{sym}
 use native.Mathlib.Omega.{arith}
 use Rattle.varint.proofs.Writings.{size-small, size-2, size-3, size-4, size-5}

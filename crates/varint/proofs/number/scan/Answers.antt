@@ -1,3 +1,4 @@
+-- A number is scanned byte by byte, as the definition reads it.
 use mathlib.Core.Path.{sym, _∙_}
 use mathlib.Core.Logic.{_⊎_, inl, inr, ⊎-elim}
 use Prim.Native.Nat.{_-_}

@@ -1,3 +1,4 @@
+-- How far a reader has come, and that it goes on to the end of the bytes.
 use Prim.Native.Nat.{_-_}
 use lib.ListN.{length}
 use Rattle.varint.proofs.Readings.{Scanning}

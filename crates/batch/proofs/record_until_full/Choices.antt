@@ -4,7 +4,7 @@ use mathlib.Core.List.{_++_, reverse}
 use Prim.Native.Nat.{_+_, _-_}
 use lib.ListN.{length, take, drop}
 use Rattle.batch.specs.Runs.{longestRun}
-use Rattle.batch.proofs.record_all.Given as given
+use Rattle.batch.proofs.record_until_full.Given as given
 
 abbrev pub Inv-loop-pushed : given.InvT-loop-pushed
 Inv-loop-pushed g l =
