@@ -15,7 +15,7 @@ unitName (UsedBeyondEnd place) = codes "byte "
 unitName EntryBeneath = []
 
 abbrev pub reasonWords : LayRefusal → List ℕ
-reasonWords (WrongNumber place) = codes "no number that can stand there begins here"
+reasonWords (WrongNumber place) = codes "no valid part of an entry begins here"
 reasonWords (MissingNumber place) = codes "the used bytes end within an entry"
 reasonWords (UsedBeyondEnd place) = codes "more bytes are said to be used than there are"
 reasonWords EntryBeneath = codes "there is an entry beneath"

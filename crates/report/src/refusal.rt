@@ -36,7 +36,7 @@ fn reason_words(refusal: LayRefusal) -> &'static str
     ensures { λ r. ⌜ now r ≡ reasonWords refusal ⌝ }
 {
     match refusal {
-        LayRefusal::WrongNumber(_) => "no number that can stand there begins here",
+        LayRefusal::WrongNumber(_) => "no valid part of an entry begins here",
         LayRefusal::MissingNumber(_) => "the used bytes end within an entry",
         LayRefusal::UsedBeyondEnd(_) => "more bytes are said to be used than there are",
         LayRefusal::EntryBeneath => "there is an entry beneath",
