@@ -41,13 +41,11 @@ impl<J: Journal> Delta<J> {
         ensures numbers_come_back { λ r. ⌜ made r (λ _. NumbersComeBack) ⌝ }
         ensures handed_back { λ r. ⌜ refused r (λ f. (entries journal ≡ [] → ⊥) × (f .back ≡ journal) × (f .refusal ≡ LayRefusal.EntryBeneath) × (told (f .refusal) ≡ (14, 0))) ⌝ }
     {
-        match Delta::ask(&journal) {
-            Ok(()) => Ok(Delta::new(journal)),
-            Err(refusal) => Err(Refused {
-                back: journal,
-                refusal,
-            }),
+        if let Err(refusal) = Delta::ask(&journal) {
+            let back = journal;
+            return Err(Refused { back, refusal });
         }
+        Ok(Delta::new(journal))
     }
 
     // The layer that begins at 0.

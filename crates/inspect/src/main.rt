@@ -12,9 +12,9 @@ use journal::entry::Entry;
 use report::line::LineDisplay;
 use report::line::lines;
 use report::owner::Owner;
-use report::tally::Share;
-use report::tally::ShareDisplay;
-use report::tally::Tally;
+use tally::Share;
+use tally::ShareDisplay;
+use tally::Tally;
 
 mod failure;
 mod input;

@@ -2,7 +2,7 @@
 use mathlib.Core.Path.{_≡_}
 use mathlib.Core.List.{List, [], _∷_}
 use mathlib.Core.Bool.{true, false}
-use Prim.Native.Nat.{ℕ, min}
+use Prim.Native.Nat.{ℕ, _≤_, min}
 use lib.ListN.{length}
 use Rattle.std.specs.declared.option.Option.{Option}
 use Rattle.std.specs.declared.option.Option.the-variants.{Some, None}
@@ -13,7 +13,7 @@ use Rattle.journal.specs.declared.entry.Entry.{Entry}
 use Rattle.journal.specs.declared.journal.Full.{Full}
 use Rattle.entry_codec.specs.Writing.{entryBytes}
 use Rattle.packed_journal.specs.declared.last.Last.{Last}
-use Rattle.packed_journal.specs.Packing.{shown, room}
+use Rattle.packed_journal.specs.Packing.{packed, bytesFit, shown, room}
 
 -- the newest entry, and the bytes that are used without it
 abbrev pub LastOf : List ℕ → ℕ → Option Last → Type 0
@@ -25,3 +25,7 @@ abbrev pub Appended : List ℕ → ℕ → Entry → Result ℕ Full → List �
 Appended bs used e (Ok end) cs =
     (room used bs (e ∷ shown used bs) ≡ true) × (shown end cs ≡ e ∷ shown used bs) × (room end cs ≡ room used bs) × Written bs (min used (length bs)) (entryBytes e) end cs
 Appended bs used e (Err full) cs = (room used bs (e ∷ shown used bs) ≡ false) × (cs ≡ bs)
+
+-- where the rule is that a list fits whose bytes do, `held` is the writing of what is shown (a buffer of less than 3 bytes has room for no entry)
+abbrev pub PlainlyPacked : List ℕ → ℕ → List ℕ → Type 0
+PlainlyPacked bs used held = room used bs ≡ bytesFit (length bs) → 3 ≤ length bs → held ≡ packed (shown used bs)

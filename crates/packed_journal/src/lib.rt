@@ -8,9 +8,9 @@ ghost use Rattle.std.specs.declared.result.Result.the-variants.{Err};
 ghost use Rattle.journal.specs.Meaning.{pushAnswer, pushed, newestOf, olderOf};
 ghost use Rattle.varint.specs.Written.{Written};
 ghost use Rattle.entry_codec.specs.Writing.{entryBytes};
-ghost use Rattle.packed_journal.specs.Packing.{packed, shown, foreign, room};
+ghost use Rattle.packed_journal.specs.Packing.{shown, room};
 ghost use Rattle.packed_journal.specs.Laying.{laid, Laid, LaidOn, YieldEachOtherBack, OneWriting};
-ghost use Rattle.packed_journal.specs.Calls.{LastOf, Appended};
+ghost use Rattle.packed_journal.specs.Calls.{LastOf, Appended, PlainlyPacked};
 use entry_codec::write_entry;
 use journal::entry::Entry;
 use journal::journal::Full;
@@ -61,10 +61,10 @@ impl<'a> PackedJournal<'a> {
         }
     }
 
-    // The bytes that hold the entries.
+    // The bytes that hold the entries. They are the writing of the list as long as the rule is the plain one, as `lay` has it.
     pub fn used_bytes(&self) -> &[u8]
         ensures bytes { λ r. ⌜ now r ≡ take (now (self .entry) .used) (now (now (self .entry) .bytes)) ⌝ }
-        ensures writing { λ r. ⌜ (foreign (take (now (self .entry) .used) (now (now (self .entry) .bytes))) ≡ 0 → now r ≡ packed (shown (now (self .entry) .used) (now (now (self .entry) .bytes)))) ⌝ }
+        ensures writing { λ r. ⌜ PlainlyPacked (now (now (self .entry) .bytes)) (now (self .entry) .used) (now r) ⌝ }
     {
         front(self.bytes, self.used)
     }
@@ -79,7 +79,7 @@ impl<'a> PackedJournal<'a> {
 // The first bytes, at most so many.
 fn front(bytes: &[u8], most: usize) -> &[u8]
     ensures bytes { λ r. ⌜ now r ≡ take most (now (bytes .entry)) ⌝ }
-    ensures writing { λ r. ⌜ (foreign (take most (now (bytes .entry))) ≡ 0 → now r ≡ packed (shown most (now (bytes .entry)))) ⌝ }
+    ensures writing { λ r. ⌜ PlainlyPacked (now (bytes .entry)) most (now r) ⌝ }
 {
     &bytes[0..most.min(bytes.len())]
 }

@@ -1,7 +1,6 @@
-// What the entries of a journal say, in words and counted.
+// What the entries of a journal say, in words.
 pub mod line;
 pub mod owner;
 pub mod refusal;
-pub mod tally;
 #[cfg(test)]
 mod tests;

@@ -13,10 +13,10 @@ use Rattle.std.specs.Keys.{unsigned}
 use Rattle.std.specs.Options.{valueOr}
 use Rattle.std.specs.Written.{decimal}
 use Rattle.journal.specs.declared.entry.Entry.{Entry}
 use Rattle.report.specs.declared.owner.Owner.{Owner}
 use Rattle.report.specs.declared.owner.Owner.the-variants.{Process, Row}
-use Rattle.report.specs.declared.tally.Tally.{Tally}
+use Rattle.tally.specs.declared.Tally.{Tally}
 use Rattle.report.specs.Words.{ownerOf, ownerText}
 
 abbrev pub sameOwner : Owner → Owner → Bool
 sameOwner (Process m) (Process n) = eqb m n

@@ -13,11 +13,11 @@ use Rattle.std.specs.Keys.{unsigned}
 use Rattle.std.specs.Options.{valueOr}
 use Rattle.std.proofs.shelf.Tests.{eqb-true, eqb-false}
 use Rattle.journal.specs.declared.entry.Entry.{Entry}
 use Rattle.report.specs.declared.owner.Owner.{Owner}
 use Rattle.report.specs.declared.owner.Owner.the-variants.{Process, Row}
-use Rattle.report.specs.declared.tally.Tally.{Tally}
+use Rattle.tally.specs.declared.Tally.{Tally}
 use Rattle.report.specs.Words.{ownerOf}
-use Rattle.report.specs.Counts.{sameOwner, entriesOf, someIfAny, Counts, Tallied, CountedUp}
+use Rattle.tally.specs.Counts.{sameOwner, entriesOf, someIfAny, Counts, Tallied, CountedUp}
 
 entries-of-one-more : (o : Owner) (es : List Entry) (e : Entry) → entriesOf o (es ++ (e ∷ [])) ≡ cond (sameOwner o (ownerOf e)) 1 0 + entriesOf o es
 entries-of-one-more o [] e = refl

@@ -1,8 +1,8 @@
 -- One map counts up, and the other stays.
 use mathlib.Core.Path.{refl}
 use Rattle.std.proofs.shelf.Results.{made-weaker}
-use Rattle.report.proofs.Counting.{process-counted-up, row-counted-up}
-use Rattle.report.proofs.tally.Tally.count.Needs as need
+use Rattle.tally.proofs.Counting.{process-counted-up, row-counted-up}
+use Rattle.tally.proofs.Tally.count.Needs as need
 
 pub returns-in-Process : need.returns-in-Process
 returns-in-Process c =
