@@ -1,9 +1,9 @@
 -- The calls of a packed journal, by its bytes and how many of them are used.
 use mathlib.Core.Path.{_≡_}
 use mathlib.Core.List.{List, [], _∷_}
-use mathlib.Core.Bool.{true, false}
+use mathlib.Core.Bool.{Bool, true, false}
 use Prim.Native.Nat.{ℕ, _≤_, min}
-use lib.ListN.{length}
+use lib.ListN.{length, take}
 use Rattle.std.specs.declared.option.Option.{Option}
 use Rattle.std.specs.declared.option.Option.the-variants.{Some, None}
 use Rattle.std.specs.declared.result.Result.{Result}
@@ -12,8 +12,30 @@ use Rattle.varint.specs.Written.{Written}
 use Rattle.journal.specs.declared.entry.Entry.{Entry}
 use Rattle.journal.specs.declared.journal.Full.{Full}
 use Rattle.entry_codec.specs.Writing.{entryBytes}
+use denote.Ref.{now}
+use Rattle.packed_journal.specs.declared.PackedJournal.{PackedJournal}
 use Rattle.packed_journal.specs.declared.last.Last.{Last}
+use Rattle.packed_journal.specs.Laying.{laid}
 use Rattle.packed_journal.specs.Packing.{packed, bytesFit, shown, room}
+
+-- the bytes of a journal
+abbrev pub bytesOf : PackedJournal → List ℕ
+bytesOf j = now (j .bytes)
+
+-- the entries that it shows
+abbrev pub listOf : PackedJournal → List Entry
+listOf j = shown (j .used) (bytesOf j)
+
+-- its rule
+abbrev pub ruleOf : PackedJournal → List Entry → Bool
+ruleOf j = room (j .used) (bytesOf j)
+
+-- the journal laid on the first `used` bytes of bs: it shows what they are read as and are the writing of, and a list fits it where its bytes do
+pub record LaidOn (bs : List ℕ) (used : ℕ) (j : PackedJournal) : Type 0 where
+  pub list : laid bs used ≡ Ok (listOf j)
+  pub writing : take used bs ≡ packed (listOf j)
+  pub rule : ruleOf j ≡ bytesFit (length bs)
+  pub bytes : bytesOf j ≡ bs
 
 -- the newest entry, and the bytes that are used without it
 abbrev pub LastOf : List ℕ → ℕ → Option Last → Type 0

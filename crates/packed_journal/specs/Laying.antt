@@ -31,16 +31,16 @@ abbrev pub ReadOn : {J : Type 0} → List ℕ → Result J LayRefusal → Type 0
 ReadOn held (Ok j) = (readAll held ≡ Ok (entriesOf held)) × (held ≡ packed (entriesOf held)) × (foreign held ≡ 0)
 ReadOn held (Err refusal) = readAll held ≡ Err refusal
 
--- what the journal on the first `used` bytes shows is what they were read as and what they are the writing of, and a list fits it where its bytes do
-pub record Laid (bs : List ℕ) (used : ℕ) : Type 0 where
-  pub answer : laid bs used ≡ Ok (shown used bs)
+-- a journal on the first `used` bytes would show what they are read as and are the writing of, and a list would fit it where its bytes do
+pub record CanBeLaid (bs : List ℕ) (used : ℕ) : Type 0 where
+  pub list : laid bs used ≡ Ok (shown used bs)
   pub writing : take used bs ≡ packed (shown used bs)
   pub rule : room used bs ≡ bytesFit (length bs)
 
--- what laying answers: the journal is as said, or the rules give the refusal
-abbrev pub LaidOn : {J : Type 0} → List ℕ → ℕ → Result J LayRefusal → Type 0
-LaidOn bs used (Ok j) = Laid bs used
-LaidOn bs used (Err refusal) = laid bs used ≡ Err refusal
+-- what asking answers: that, or the refusal that the rules give
+abbrev pub Asked : List ℕ → ℕ → Result (Unit {0}) LayRefusal → Type 0
+Asked bs used (Ok _) = CanBeLaid bs used
+Asked bs used (Err refusal) = laid bs used ≡ Err refusal
 
 -- the bytes that a list was written to are laid as that list, and bytes that are laid as a list are its writing
 abbrev pub YieldEachOtherBack : Type 0

@@ -4,13 +4,13 @@ ghost use Prim.Native.Nat.{min};
 ghost use lib.ListN.{length, take};
 ghost use denote.Ref.{now};
 ghost use Rattle.std.specs.Results.{Cases};
+ghost use Rattle.std.specs.Vec.{made, refused};
 ghost use Rattle.std.specs.declared.result.Result.the-variants.{Err};
 ghost use Rattle.journal.specs.Meaning.{pushAnswer, pushed, newestOf, olderOf};
 ghost use Rattle.varint.specs.Written.{Written};
 ghost use Rattle.entry_codec.specs.Writing.{entryBytes};
-ghost use Rattle.packed_journal.specs.Packing.{shown, room};
-ghost use Rattle.packed_journal.specs.Laying.{laid, Laid, LaidOn, YieldEachOtherBack, OneWriting};
-ghost use Rattle.packed_journal.specs.Calls.{LastOf, Appended, PlainlyPacked};
+ghost use Rattle.packed_journal.specs.Laying.{laid, Asked, YieldEachOtherBack, OneWriting};
+ghost use Rattle.packed_journal.specs.Calls.{bytesOf, listOf, ruleOf, LaidOn, LastOf, Appended, PlainlyPacked};
 use entry_codec::write_entry;
 use journal::entry::Entry;
 use journal::journal::Full;
@@ -33,7 +33,7 @@ pub struct PackedJournal<'a> {
 
 // Whether a journal can be laid on bytes of which the first `used` hold entries already.
 pub fn ask(bytes: &[u8], used: usize) -> Result<(), LayRefusal>
-    ensures answer { λ r. ⌜ LaidOn (now (bytes .entry)) used r ⌝ }
+    ensures answer { λ r. ⌜ Asked (now (bytes .entry)) used r ⌝ }
     ensures back { λ _. ⌜ YieldEachOtherBack ⌝ }
     ensures unique { λ _. ⌜ OneWriting ⌝ }
 {
@@ -47,8 +47,8 @@ pub fn ask(bytes: &[u8], used: usize) -> Result<(), LayRefusal>
 impl<'a> PackedJournal<'a> {
     // The journal on bytes of which the first `used` hold entries already, or the bytes back.
     pub fn lay(bytes: &'a mut [u8], used: usize) -> Result<PackedJournal<'a>, Refused<&'a mut [u8]>>
-        ensures answer { λ r. ⌜ Cases r (λ j. Laid (now (bytes .entry)) used) (λ u. laid (now (bytes .entry)) used ≡ Err (u .refusal)) ⌝ }
-        ensures bytes { λ r. ⌜ Cases r (λ j. (j .used ≡ used) × (now (j .bytes) ≡ now (bytes .entry))) (λ u. now (u .back) ≡ now (bytes .entry)) ⌝ }
+        ensures journal { λ r. ⌜ made r (λ j. LaidOn (now (bytes .entry)) used j) ⌝ }
+        ensures refusal { λ r. ⌜ refused r (λ u. (laid (now (bytes .entry)) used ≡ Err (u .refusal)) × (now (u .back) ≡ now (bytes .entry))) ⌝ }
         ensures back { λ _. ⌜ YieldEachOtherBack ⌝ }
         ensures unique { λ _. ⌜ OneWriting ⌝ }
     {
@@ -63,14 +63,14 @@ impl<'a> PackedJournal<'a> {
 
     // The bytes that hold the entries. They are the writing of the list as long as the rule is the plain one, as `lay` has it.
     pub fn used_bytes(&self) -> &[u8]
-        ensures bytes { λ r. ⌜ now r ≡ take (now (self .entry) .used) (now (now (self .entry) .bytes)) ⌝ }
-        ensures writing { λ r. ⌜ PlainlyPacked (now (now (self .entry) .bytes)) (now (self .entry) .used) (now r) ⌝ }
+        ensures bytes { λ r. ⌜ now r ≡ take (now (self .entry) .used) (bytesOf (now (self .entry))) ⌝ }
+        ensures writing { λ r. ⌜ PlainlyPacked (bytesOf (now (self .entry))) (now (self .entry) .used) (now r) ⌝ }
     {
         front(self.bytes, self.used)
     }
 
     fn last(&self) -> Option<Last>
-        ensures { λ r. ⌜ LastOf (now (now (self .entry) .bytes)) (now (self .entry) .used) r ⌝ }
+        ensures { λ r. ⌜ LastOf (bytesOf (now (self .entry))) (now (self .entry) .used) r ⌝ }
     {
         last_entry(self.used_bytes())
     }
@@ -96,17 +96,17 @@ fn append(bytes: &mut [u8], used: usize, entry: Entry) -> Result<usize, Full>
 }
 
 pub impl<'a> Journal for PackedJournal<'a> as PackedJournalJournal {
-    ghost entries = { λ s. shown (s .used) (now (s .bytes)) };
+    ghost entries = { listOf };
 
-    ghost fits = { λ s. room (s .used) (now (s .bytes)) };
+    ghost fits = { ruleOf };
 
     // As the trait has it; and only the bytes of the entry are written.
     fn push(&mut self, entry: Entry) -> Result<(), Full>
-        ensures answer { λ r. ⌜ r ≡ pushAnswer (room (now (self .entry) .used) (now (now (self .entry) .bytes))) (shown (now (self .entry) .used) (now (now (self .entry) .bytes))) entry ⌝ }
-        ensures list { λ _. ⌜ shown (now (self .exit) .used) (now (now (self .exit) .bytes)) ≡ pushed (room (now (self .entry) .used) (now (now (self .entry) .bytes))) (shown (now (self .entry) .used) (now (now (self .entry) .bytes))) entry ⌝ }
-        ensures rule { λ _. ⌜ room (now (self .exit) .used) (now (now (self .exit) .bytes)) ≡ room (now (self .entry) .used) (now (now (self .entry) .bytes)) ⌝ }
+        ensures answer { λ r. ⌜ r ≡ pushAnswer (ruleOf (now (self .entry))) (listOf (now (self .entry))) entry ⌝ }
+        ensures list { λ _. ⌜ listOf (now (self .exit)) ≡ pushed (ruleOf (now (self .entry))) (listOf (now (self .entry))) entry ⌝ }
+        ensures rule { λ _. ⌜ ruleOf (now (self .exit)) ≡ ruleOf (now (self .entry)) ⌝ }
         ensures full { λ r. ⌜ Cases r (λ _. Unit {0}) (λ _. now (self .exit) ≡ now (self .entry)) ⌝ }
-        ensures bytes { λ r. ⌜ Cases r (λ _. Written (now (now (self .entry) .bytes)) (min (now (self .entry) .used) (length (now (now (self .entry) .bytes)))) (entryBytes entry) (now (self .exit) .used) (now (now (self .exit) .bytes))) (λ _. Unit {0}) ⌝ }
+        ensures bytes { λ r. ⌜ Cases r (λ _. Written (bytesOf (now (self .entry))) (min (now (self .entry) .used) (length (bytesOf (now (self .entry))))) (entryBytes entry) (now (self .exit) .used) (bytesOf (now (self .exit)))) (λ _. Unit {0}) ⌝ }
     {
         let used = self.used;
         match append(self.bytes, used, entry) {
@@ -127,10 +127,10 @@ pub impl<'a> Journal for PackedJournal<'a> as PackedJournalJournal {
 
     // As the trait has it; and the bytes keep their contents.
     fn pop(&mut self) -> Option<Entry>
-        ensures answer { λ r. ⌜ r ≡ newestOf (shown (now (self .entry) .used) (now (now (self .entry) .bytes))) ⌝ }
-        ensures list { λ _. ⌜ shown (now (self .exit) .used) (now (now (self .exit) .bytes)) ≡ olderOf (shown (now (self .entry) .used) (now (now (self .entry) .bytes))) ⌝ }
-        ensures rule { λ _. ⌜ room (now (self .exit) .used) (now (now (self .exit) .bytes)) ≡ room (now (self .entry) .used) (now (now (self .entry) .bytes)) ⌝ }
-        ensures bytes { λ _. ⌜ now (now (self .exit) .bytes) ≡ now (now (self .entry) .bytes) ⌝ }
+        ensures answer { λ r. ⌜ r ≡ newestOf (listOf (now (self .entry))) ⌝ }
+        ensures list { λ _. ⌜ listOf (now (self .exit)) ≡ olderOf (listOf (now (self .entry))) ⌝ }
+        ensures rule { λ _. ⌜ ruleOf (now (self .exit)) ≡ ruleOf (now (self .entry)) ⌝ }
+        ensures bytes { λ _. ⌜ bytesOf (now (self .exit)) ≡ bytesOf (now (self .entry)) ⌝ }
     {
         match self.last() {
             Some(last) => {

@@ -8,7 +8,9 @@ use lib.ListN.{length, take}
 use Rattle.std.specs.declared.option.Option.{Option}
 use Rattle.std.specs.declared.option.Option.the-variants.{Some, None}
 use Rattle.journal.specs.declared.entry.Entry.{Entry}
+use denote.Ref.{now}
 use Rattle.slot_journal.specs.declared.Newest.{Newest}
+use Rattle.slot_journal.specs.declared.SlotJournal.{SlotJournal}
 
 -- the entries in the first n places, the newest first
 abbrev pub held : ℕ → List Entry → List Entry
@@ -22,3 +24,15 @@ placesEnough slots l = leb (length l) (length slots)
 abbrev pub NewestPlace : List Entry → ℕ → Option Newest → Type 0
 NewestPlace slots n None = held n slots ≡ []
 NewestPlace slots n (Some p) = held n slots ≡ p .entry ∷ held (p .place) slots
+
+-- the table of a journal
+abbrev pub tableOf : SlotJournal → List Entry
+tableOf j = now (j .slots)
+
+-- the entries that it shows
+abbrev pub listOf : SlotJournal → List Entry
+listOf j = held (j .len) (tableOf j)
+
+-- its rule
+abbrev pub ruleOf : SlotJournal → List Entry → Bool
+ruleOf j = placesEnough (tableOf j)

@@ -7,7 +7,7 @@ ghost use lib.ListN.{length, set};
 ghost use denote.Ref.{now};
 ghost use Rattle.std.specs.Results.{Cases};
 ghost use Rattle.journal.specs.Meaning.{pushAnswer, pushed, newestOf, olderOf};
-ghost use Rattle.slot_journal.specs.Slots.{held, placesEnough, NewestPlace};
+ghost use Rattle.slot_journal.specs.Slots.{held, placesEnough, NewestPlace, tableOf, listOf, ruleOf};
 use journal::entry::Entry;
 use journal::journal::Full;
 use journal::journal::Journal;
@@ -29,23 +29,23 @@ struct Newest {
 impl<'a> SlotJournal<'a> {
     // The journal over the table, with no entry in it yet.
     pub fn new(slots: &'a mut [Entry]) -> SlotJournal<'a>
-        ensures empty { λ r. ⌜ held (r .len) (now (r .slots)) ≡ [] ⌝ }
-        ensures rule { λ r. ⌜ placesEnough (now (r .slots)) ≡ placesEnough (now (slots .entry)) ⌝ }
-        ensures untouched { λ r. ⌜ now (r .slots) ≡ now (slots .entry) ⌝ }
+        ensures empty { λ r. ⌜ listOf r ≡ [] ⌝ }
+        ensures rule { λ r. ⌜ ruleOf r ≡ placesEnough (now (slots .entry)) ⌝ }
+        ensures untouched { λ r. ⌜ tableOf r ≡ now (slots .entry) ⌝ }
     {
         SlotJournal { slots, len: 0 }
     }
 
     // Whether one entry more has a place.
     fn has_room(&self, entry: Entry) -> bool
-        ensures rule { λ r. ⌜ placesEnough (now (now (self .entry) .slots)) (entry ∷ held (now (self .entry) .len) (now (now (self .entry) .slots))) ≡ r ⌝ }
-        ensures place { λ r. ⌜ (r ≡ true → now (self .entry) .len < length (now (now (self .entry) .slots))) ⌝ }
+        ensures rule { λ r. ⌜ ruleOf (now (self .entry)) (entry ∷ listOf (now (self .entry))) ≡ r ⌝ }
+        ensures place { λ r. ⌜ (r ≡ true → now (self .entry) .len < length (tableOf (now (self .entry)))) ⌝ }
     {
         self.len < self.slots.len()
     }
 
     fn last(&self) -> Option<Newest>
-        ensures { λ r. ⌜ NewestPlace (now (now (self .entry) .slots)) (now (self .entry) .len) r ⌝ }
+        ensures { λ r. ⌜ NewestPlace (tableOf (now (self .entry))) (now (self .entry) .len) r ⌝ }
     {
         let used = self.len.min(self.slots.len());
         if used == 0 {
@@ -69,17 +69,17 @@ fn put(slots: &mut [Entry], place: usize, entry: Entry)
 }
 
 pub impl<'a> Journal for SlotJournal<'a> as SlotJournalJournal {
-    ghost entries = { λ s. held (s .len) (now (s .slots)) };
+    ghost entries = { listOf };
 
-    ghost fits = { λ s. placesEnough (now (s .slots)) };
+    ghost fits = { ruleOf };
 
     // As the trait has it; and only the place of the entry is written.
     fn push(&mut self, entry: Entry) -> Result<(), Full>
-        ensures answer { λ r. ⌜ r ≡ pushAnswer (placesEnough (now (now (self .entry) .slots))) (held (now (self .entry) .len) (now (now (self .entry) .slots))) entry ⌝ }
-        ensures list { λ _. ⌜ held (now (self .exit) .len) (now (now (self .exit) .slots)) ≡ pushed (placesEnough (now (now (self .entry) .slots))) (held (now (self .entry) .len) (now (now (self .entry) .slots))) entry ⌝ }
-        ensures rule { λ _. ⌜ placesEnough (now (now (self .exit) .slots)) ≡ placesEnough (now (now (self .entry) .slots)) ⌝ }
+        ensures answer { λ r. ⌜ r ≡ pushAnswer (ruleOf (now (self .entry))) (listOf (now (self .entry))) entry ⌝ }
+        ensures list { λ _. ⌜ listOf (now (self .exit)) ≡ pushed (ruleOf (now (self .entry))) (listOf (now (self .entry))) entry ⌝ }
+        ensures rule { λ _. ⌜ ruleOf (now (self .exit)) ≡ ruleOf (now (self .entry)) ⌝ }
         ensures full { λ r. ⌜ Cases r (λ _. Unit {0}) (λ _. now (self .exit) ≡ now (self .entry)) ⌝ }
-        ensures places { λ r. ⌜ Cases r (λ _. now (now (self .exit) .slots) ≡ set (now (now (self .entry) .slots)) (now (self .entry) .len) entry) (λ _. Unit {0}) ⌝ }
+        ensures places { λ r. ⌜ Cases r (λ _. tableOf (now (self .exit)) ≡ set (tableOf (now (self .entry))) (now (self .entry) .len) entry) (λ _. Unit {0}) ⌝ }
     {
         if !self.has_room(entry) {
             return Err(Full);
@@ -99,10 +99,10 @@ pub impl<'a> Journal for SlotJournal<'a> as SlotJournalJournal {
 
     // As the trait has it; and the table keeps its contents.
     fn pop(&mut self) -> Option<Entry>
-        ensures answer { λ r. ⌜ r ≡ newestOf (held (now (self .entry) .len) (now (now (self .entry) .slots))) ⌝ }
-        ensures list { λ _. ⌜ held (now (self .exit) .len) (now (now (self .exit) .slots)) ≡ olderOf (held (now (self .entry) .len) (now (now (self .entry) .slots))) ⌝ }
-        ensures rule { λ _. ⌜ placesEnough (now (now (self .exit) .slots)) ≡ placesEnough (now (now (self .entry) .slots)) ⌝ }
-        ensures places { λ _. ⌜ now (now (self .exit) .slots) ≡ now (now (self .entry) .slots) ⌝ }
+        ensures answer { λ r. ⌜ r ≡ newestOf (listOf (now (self .entry))) ⌝ }
+        ensures list { λ _. ⌜ listOf (now (self .exit)) ≡ olderOf (listOf (now (self .entry))) ⌝ }
+        ensures rule { λ _. ⌜ ruleOf (now (self .exit)) ≡ ruleOf (now (self .entry)) ⌝ }
+        ensures places { λ _. ⌜ tableOf (now (self .exit)) ≡ tableOf (now (self .entry)) ⌝ }
     {
         let last = self.last()?;
         self.len = last.place;
