@@ -2,7 +2,7 @@
 ghost use mathlib.Core.Path.{_≡_};
 ghost use mathlib.Core.List.{List};
 ghost use mathlib.Core.Bool.{Bool};
-ghost use Rattle.std.specs.Results.{Cases};
+ghost use Rattle.std.specs.Vec.{refused};
 ghost use Rattle.journal.specs.declared.entry.Entry.{Entry};
 ghost use Rattle.journal.specs.Meaning.{pushAnswer, pushed, newestOf, olderOf};
 use crate::entry::Entry;
@@ -23,7 +23,7 @@ pub trait Journal {
         ensures answer { λ r. ⌜ r ≡ pushAnswer (fits (now (self .entry))) (entries (now (self .entry))) entry ⌝ }
         ensures list { λ _. ⌜ entries (now (self .exit)) ≡ pushed (fits (now (self .entry))) (entries (now (self .entry))) entry ⌝ }
         ensures rule { λ _. ⌜ fits (now (self .exit)) ≡ fits (now (self .entry)) ⌝ }
-        ensures full { λ r. ⌜ Cases r (λ _. Unit {0}) (λ _. now (self .exit) ≡ now (self .entry)) ⌝ };
+        ensures full { λ r. ⌜ refused r (λ _. now (self .exit) ≡ now (self .entry)) ⌝ };
 
     // The newest entry.
     fn newest(&self) -> Option<Entry>

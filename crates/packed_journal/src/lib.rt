@@ -3,7 +3,6 @@ ghost use mathlib.Core.Path.{_≡_};
 ghost use Prim.Native.Nat.{min};
 ghost use lib.ListN.{length, take};
 ghost use denote.Ref.{now};
-ghost use Rattle.std.specs.Results.{Cases};
 ghost use Rattle.std.specs.Vec.{made, refused};
 ghost use Rattle.std.specs.declared.result.Result.the-variants.{Err};
 ghost use Rattle.journal.specs.Meaning.{pushAnswer, pushed, newestOf, olderOf};
@@ -105,24 +104,16 @@ pub impl<'a> Journal for PackedJournal<'a> as PackedJournalJournal {
         ensures answer { λ r. ⌜ r ≡ pushAnswer (ruleOf (now (self .entry))) (listOf (now (self .entry))) entry ⌝ }
         ensures list { λ _. ⌜ listOf (now (self .exit)) ≡ pushed (ruleOf (now (self .entry))) (listOf (now (self .entry))) entry ⌝ }
         ensures rule { λ _. ⌜ ruleOf (now (self .exit)) ≡ ruleOf (now (self .entry)) ⌝ }
-        ensures full { λ r. ⌜ Cases r (λ _. Unit {0}) (λ _. now (self .exit) ≡ now (self .entry)) ⌝ }
-        ensures bytes { λ r. ⌜ Cases r (λ _. Written (bytesOf (now (self .entry))) (min (now (self .entry) .used) (length (bytesOf (now (self .entry))))) (entryBytes entry) (now (self .exit) .used) (bytesOf (now (self .exit)))) (λ _. Unit {0}) ⌝ }
+        ensures full { λ r. ⌜ refused r (λ _. now (self .exit) ≡ now (self .entry)) ⌝ }
+        ensures bytes { λ r. ⌜ made r (λ _. Written (bytesOf (now (self .entry))) (min (now (self .entry) .used) (length (bytesOf (now (self .entry))))) (entryBytes entry) (now (self .exit) .used) (bytesOf (now (self .exit)))) ⌝ }
     {
         let used = self.used;
-        match append(self.bytes, used, entry) {
-            Ok(end) => {
-                self.used = end;
-                Ok(())
-            }
-            Err(full) => Err(full),
-        }
+        self.used = append(self.bytes, used, entry)?;
+        Ok(())
     }
 
     fn newest(&self) -> Option<Entry> {
-        match self.last() {
-            Some(last) => Some(last.entry),
-            None => None,
-        }
+        Some(self.last()?.entry)
     }
 
     // As the trait has it; and the bytes keep their contents.
@@ -132,13 +123,9 @@ pub impl<'a> Journal for PackedJournal<'a> as PackedJournalJournal {
         ensures rule { λ _. ⌜ ruleOf (now (self .exit)) ≡ ruleOf (now (self .entry)) ⌝ }
         ensures bytes { λ _. ⌜ bytesOf (now (self .exit)) ≡ bytesOf (now (self .entry)) ⌝ }
     {
-        match self.last() {
-            Some(last) => {
-                self.used = last.start;
-                Some(last.entry)
-            }
-            None => None,
-        }
+        let last = self.last()?;
+        self.used = last.start;
+        Some(last.entry)
     }
 }
 

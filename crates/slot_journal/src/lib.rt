@@ -5,7 +5,7 @@ ghost use mathlib.Core.List.{[], _∷_};
 ghost use mathlib.Core.Path.{_≡_};
 ghost use lib.ListN.{length, set};
 ghost use denote.Ref.{now};
-ghost use Rattle.std.specs.Results.{Cases};
+ghost use Rattle.std.specs.Vec.{made, refused};
 ghost use Rattle.journal.specs.Meaning.{pushAnswer, pushed, newestOf, olderOf};
 ghost use Rattle.slot_journal.specs.Slots.{held, placesEnough, NewestPlace, tableOf, listOf, ruleOf};
 use journal::entry::Entry;
@@ -78,8 +78,8 @@ pub impl<'a> Journal for SlotJournal<'a> as SlotJournalJournal {
         ensures answer { λ r. ⌜ r ≡ pushAnswer (ruleOf (now (self .entry))) (listOf (now (self .entry))) entry ⌝ }
         ensures list { λ _. ⌜ listOf (now (self .exit)) ≡ pushed (ruleOf (now (self .entry))) (listOf (now (self .entry))) entry ⌝ }
         ensures rule { λ _. ⌜ ruleOf (now (self .exit)) ≡ ruleOf (now (self .entry)) ⌝ }
-        ensures full { λ r. ⌜ Cases r (λ _. Unit {0}) (λ _. now (self .exit) ≡ now (self .entry)) ⌝ }
-        ensures places { λ r. ⌜ Cases r (λ _. tableOf (now (self .exit)) ≡ set (tableOf (now (self .entry))) (now (self .entry) .len) entry) (λ _. Unit {0}) ⌝ }
+        ensures full { λ r. ⌜ refused r (λ _. now (self .exit) ≡ now (self .entry)) ⌝ }
+        ensures places { λ r. ⌜ made r (λ _. tableOf (now (self .exit)) ≡ set (tableOf (now (self .entry))) (now (self .entry) .len) entry) ⌝ }
     {
         if !self.has_room(entry) {
             return Err(Full);
@@ -91,10 +91,7 @@ pub impl<'a> Journal for SlotJournal<'a> as SlotJournalJournal {
     }
 
     fn newest(&self) -> Option<Entry> {
-        match self.last() {
-            Some(last) => Some(last.entry),
-            None => None,
-        }
+        Some(self.last()?.entry)
     }
 
     // As the trait has it; and the table keeps its contents.

@@ -37,7 +37,7 @@ const MOST_BEFORE: u32 = 33_554_431;
 // The number that begins at a place, its end, and whether its writing is the shortest: which writings to take is the caller's choice.
 fn scan(bytes: &[u8], at: usize) -> Result<Reading, Fault>
     ensures answer { λ r. ⌜ r ≡ scanned (now (bytes .entry)) at ⌝ }
-    ensures own { λ r. ⌜ made r (λ n. (n .shortest ≡ true → WritingAt (now (bytes .entry)) at (n .value) (n .end))) ⌝ }
+    ensures writing { λ r. ⌜ made r (λ n. (n .shortest ≡ true → WritingAt (now (bytes .entry)) at (n .value) (n .end))) ⌝ }
 {
     if at >= bytes.len() {
         return Err(Fault::Ended(bytes.len()));
@@ -66,7 +66,7 @@ fn scan(bytes: &[u8], at: usize) -> Result<Reading, Fault>
 // The number that begins at a place, and the place after it. Only its shortest writing is a number.
 pub fn read(bytes: &[u8], at: usize) -> Result<(u32, usize), Fault>
     ensures answer { λ r. ⌜ r ≡ numberAt (now (bytes .entry)) at ⌝ }
-    ensures own { λ r. ⌜ made r (λ p. WritingAt (now (bytes .entry)) at (p .0) (p .1)) ⌝ }
+    ensures writing { λ r. ⌜ made r (λ p. WritingAt (now (bytes .entry)) at (p .0) (p .1)) ⌝ }
 {
     let number = scan(bytes, at)?;
     if !number.shortest {
