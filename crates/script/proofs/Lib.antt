@@ -1,0 +1,17 @@
+pub mod Addresses
+pub mod Outside
+pub mod Searches
+pub mod Turns
+pub mod FrontLaws
+pub mod OpenTables
+pub mod Linkings
+pub mod ReferenceTurns
+pub mod Acceptance
+pub mod ImageLaws
+pub mod OpenFrames
+pub mod Nesting
+pub mod Partners
+pub mod RoleInstructions
+pub mod Forks
+pub mod Targets
+pub mod Flows

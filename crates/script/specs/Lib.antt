@@ -1,0 +1,15 @@
+pub mod Scripts
+pub mod Roles
+pub mod Frames
+pub mod Regions
+pub mod References
+pub mod Refusals
+pub mod Images
+pub mod Flow
+pub mod Held
+pub mod Fronts
+pub mod Framing
+pub mod Names
+pub mod Linking
+pub mod Stages
+pub mod Calls
