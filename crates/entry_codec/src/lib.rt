@@ -19,8 +19,6 @@ use varint::number::write;
 use varint::zigzag::fold;
 use varint::zigzag::unfold;
 
-pub mod examples;
-
 // An entry that was read, and the place after it.
 #[derive(Clone, Copy)]
 pub struct Placed {

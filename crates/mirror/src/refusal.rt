@@ -1,0 +1,27 @@
+// Why a mirrored script is not written.
+ghost use mathlib.Core.Path.{_≡_};
+ghost use Rattle.mirror.specs.Refusals.{told};
+use varint::number::NoRoom;
+
+#[derive(Clone, Copy, PartialEq, Eq, Debug)]
+pub enum MirrorRefusal {
+    BufferTooShort,
+}
+
+impl MirrorRefusal {
+    // The number by which users know the refusal.
+    pub fn number(self) -> u32
+        ensures { λ r. ⌜ r ≡ told self ⌝ }
+    {
+        match self {
+            MirrorRefusal::BufferTooShort => 15,
+        }
+    }
+}
+
+// A number that finds no room is one of a mirrored script that does not fit.
+pub impl From<NoRoom> for MirrorRefusal as MirrorRefusalFromNoRoom {
+    fn from(_no_room: NoRoom) -> MirrorRefusal {
+        MirrorRefusal::BufferTooShort
+    }
+}
