@@ -3,6 +3,8 @@ ghost use mathlib.Core.Path.{_≡_};
 ghost use Rattle.inspect.specs.declared.failure.Failure.the-variants.{Damaged, OutOfMemory};
 use journal::refusal::LayRefusal;
 use journal::refusal::Refused;
+use program_input::InputFailure;
+use program_input::InputFailureDisplay;
 use report::refusal::Refusal;
 use report::refusal::RefusalDisplay;
 use std::alloc::AllocError;
@@ -15,9 +17,7 @@ With no FILE it reads standard input.";
 
 #[derive(Drop)]
 pub enum Failure {
-    // Words that ask for nothing.
-    Usage,
-    Unread(String, io::Error),
+    Input(InputFailure),
     Damaged(LayRefusal),
     System(io::Error),
     OutOfMemory,
@@ -28,6 +28,12 @@ pub impl<T: Drop> From<Refused<T>> for Failure as FailureFromRefused {
 
     fn from(refused: Refused<T>) -> Failure {
         Failure::Damaged(refused.refusal)
+    }
+}
+
+pub impl From<InputFailure> for Failure as FailureFromInput {
+    fn from(failure: InputFailure) -> Failure {
+        Failure::Input(failure)
     }
 }
 
@@ -48,8 +54,7 @@ pub impl From<AllocError> for Failure as FailureFromAllocError {
 pub impl fmt::Display for Failure as FailureDisplay {
     fn fmt<W: fmt::Write>(&self, f: &mut fmt::Formatter<W>) -> fmt::Result {
         match self {
-            Failure::Usage => f.write_str(USAGE),
-            Failure::Unread(name, error) => write!(f, "{name}: {error}"),
+            Failure::Input(failure) => write!(f, "{failure}"),
             Failure::Damaged(refusal) => Refusal { refusal: *refusal }.fmt(f),
             Failure::System(error) => write!(f, "{error}"),
             Failure::OutOfMemory => f.write_str("out of memory"),

@@ -1,14 +1,14 @@
 // Shows a packed journal: its entries, the newest first, and how many each process and each row has.
+use entries::entries_in;
 use failure::Failure;
 use failure::FailureDisplay;
 use failure::FailureFromAllocError;
+use failure::FailureFromInput;
 use failure::FailureFromIo;
 use failure::USAGE;
-use input::Request;
-use input::asked;
-use input::bytes_of;
-use input::entries_in;
 use journal::entry::Entry;
+use program_input::Request;
+use program_input::asked;
 use report::line::LineDisplay;
 use report::line::lines;
 use report::owner::Owner;
@@ -16,8 +16,8 @@ use tally::Share;
 use tally::ShareDisplay;
 use tally::Tally;
 
+mod entries;
 mod failure;
-mod input;
 
 fn main(rt: LibcRuntime) -> Result<(), Failure> {
     let result = run(&rt);
@@ -28,14 +28,13 @@ fn main(rt: LibcRuntime) -> Result<(), Failure> {
 }
 
 fn run(rt: &LibcRuntime) -> Result<(), Failure> {
-    let source = match asked(rt)? {
-        Request::Bytes(source) => source,
+    let mut bytes = match asked(rt, USAGE)? {
+        Request::Bytes(bytes) => bytes,
         Request::Help => {
             rt.println(USAGE)?;
             return Ok(());
         }
     };
-    let mut bytes = bytes_of(rt, source)?;
     let entries = entries_in(rt.alloc(), bytes.as_mut_slice())?;
     show(rt, entries.as_slice(), bytes.len())
 }

@@ -3,7 +3,7 @@ ghost use mathlib.Core.Path.{_≡_};
 ghost use Rattle.instruction.specs.Mirrors.{mirrorOf, mirrorCode};
 use crate::instruction::Instruction;
 
-#[derive(Clone, Copy, PartialEq, Eq, Debug)]
+#[derive(Clone, Copy)]
 pub enum MirrorInstruction {
     Rjmp, // goes to where a label was come to from
     Restore(u8), // puts a variable's old value back

@@ -32,7 +32,7 @@ bytes-one-more s k h =
     ∙ sym (joined-more pairBytes [] (mirrorPairs later) (mirrorPair i))
 
 -- the bytes of the mirrors behind an address, and those of the instruction at the address
-pub bytes-behind-one-less : (s : List Instruction) (a : ℕ) → 1 ≤ a → a ≤ length s → mirrorBytes (drop (a - 1) s) ≡ mirrorBytes (drop a s) ++ pairBytes (mirrorPair (instructionAt s a))
+bytes-behind-one-less : (s : List Instruction) (a : ℕ) → 1 ≤ a → a ≤ length s → mirrorBytes (drop (a - 1) s) ≡ mirrorBytes (drop a s) ++ pairBytes (mirrorPair (instructionAt s a))
 bytes-behind-one-less s zero p h = absurd (omega arith)
 bytes-behind-one-less s (suc k) p h =
     let before : suc k - 1 ≡ k = omega arith in
@@ -41,7 +41,7 @@ bytes-behind-one-less s (suc k) p h =
     ∙ bytes-one-more s k (omega arith)
     ∙ ap (λ n. mirrorBytes (drop n s) ++ pairBytes (mirrorPair (getD s k Nop))) after
 
-pub bytes-behind-within : (s : List Instruction) (a : ℕ) → a ≤ length s → length (mirrorBytes (drop a s)) ≤ length (mirrorBytes s)
+bytes-behind-within : (s : List Instruction) (a : ℕ) → a ≤ length s → length (mirrorBytes (drop a s)) ≤ length (mirrorBytes s)
 bytes-behind-within s zero h = omega arith
 bytes-behind-within s (suc k) h =
     let next : k + 1 ≡ suc k = omega arith in

@@ -10,6 +10,7 @@ use Rattle.script.specs.Images.{pairBytes, imageOf}
 abbrev pub mirrorPair : Instruction → ℕ × ℕ
 mirrorPair i = mirrorCode (mirrorOf i)
 
+-- the codes and operands of the mirrored script
 abbrev pub mirrorPairs : List Instruction → List (ℕ × ℕ)
 mirrorPairs s = map mirrorPair (reverse s)
 
@@ -17,6 +18,6 @@ mirrorPairs s = map mirrorPair (reverse s)
 abbrev pub mirrorBytes : List Instruction → List ℕ
 mirrorBytes s = joined pairBytes (mirrorPairs s)
 
--- the mirrored script as an image
+-- the image of the mirrored script
 abbrev pub mirrorImage : List Instruction → List ℕ
 mirrorImage s = imageOf (mirrorPairs s)

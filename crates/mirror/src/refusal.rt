@@ -19,7 +19,7 @@ impl MirrorRefusal {
     }
 }
 
-// A number that finds no room is one of a mirrored script that does not fit.
+// Where a number finds no room, the mirrored script does not fit.
 pub impl From<NoRoom> for MirrorRefusal as MirrorRefusalFromNoRoom {
     fn from(_no_room: NoRoom) -> MirrorRefusal {
         MirrorRefusal::BufferTooShort

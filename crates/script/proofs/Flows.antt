@@ -24,7 +24,8 @@ use Rattle.script.proofs.Nesting.{Chain, done, onward, Passing, keeping, openi
 use Rattle.script.proofs.Partners.{closer-closes, partners}
 use Rattle.script.proofs.RoleInstructions.{opener, instruction-by-role}
 use Rattle.script.proofs.Forks.{opener-region, closer-region, fork-at}
-use Rattle.script.proofs.Targets.{jpc-to-label, jmp-to-label-or-proc}
+use Rattle.script.proofs.GivenNames.{given-once}
+use Rattle.script.proofs.Targets.{jpc-to-label, jmp-to-label-or-proc, end-has-block}
 
 -- control does not go on from a branch, or from a fork, to what stands behind
 stops-before : {s : List Instruction} {a k m : ℕ} → Chain s a k m → (x : ℕ) → a ≡ suc x → falls (roleAt s x) ≡ false → (b : ℕ) → m ≡ suc b → falls (roleAt s b) ≡ false
@@ -97,6 +98,8 @@ accepted-scripts-flow s accepted =
       jmp = jmp-to-label-or-proc s (parts .references);
       fork = λ a n i. fork-at s judged a n (ap roleOf i);
       merge = λ a n i. merge-of-fork s judged a n (ap roleOf i);
+      names = given-once s judged;
+      end = end-has-block s (parts .references);
       proc = λ a p i. opener-region s a (Procedure p) (ap roleOf i);
       procEnd = λ a p i. region-has-opener s judged a (Procedure p) (ap roleOf i) (λ x outer. refl);
       branchEnd = λ a i. region-has-opener s judged a Branch (ap roleOf i) (λ x outer. refl);

@@ -13,5 +13,6 @@ pub mod Nesting
 pub mod Partners
 pub mod RoleInstructions
 pub mod Forks
+pub mod GivenNames
 pub mod Targets
 pub mod Flows

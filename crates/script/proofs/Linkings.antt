@@ -23,8 +23,8 @@ use Rattle.script.specs.declared.refusal.ImageRefusal.the-variants.{BrokenFram
 use Rattle.script.specs.Frames.{roleAt, beside, fresh, openAfter, framesAfter, allClosed, goOn, framesFrom, framesJudged}
 use Rattle.script.specs.Regions.{orNone, openBefore, around, innermost, region, innermostAddress, closedBy, paired, partnerBefore}
 use Rattle.script.specs.Framing.{isEmpty}
-use Rattle.script.specs.Linking.{openIn, OpenedBefore, pairedIn, TakenIn, HasRegions}
-use Rattle.script.specs.Held.{HasPartners}
+use Rattle.script.specs.Linking.{openIn, OpenedBefore, pairedIn, TakenIn}
+use Rattle.script.specs.Held.{HasPartners, HasRegions}
 use Rattle.script.proofs.Outside.{open-opened-before}
 
 -- what is known before an address is judged

@@ -38,6 +38,7 @@ not-plain-is-within s (suc a) h = (omega arith, ⊎-elim (λ l. absurd (h (past-
 -- no rule breaks at an address
 record Kept (s : List Instruction) (a : ℕ) : Type 0 where
   pub stands : beside s a ≡ true
+  pub named : fresh s a ≡ true
   pub next : openAfter (roleAt s a) a (openBefore s a) ≡ Some (openBefore s (suc a))
 
 cond-is-some : {A : Type 0} (b : Bool) (o : Option A) (x : A) → cond b o None ≡ Some x → (b ≡ true) × (o ≡ Some x)
@@ -53,7 +54,8 @@ unfolding openBefore
 kept-after s a fs e =
     let c = cond-is-some (beside s a && fresh s a) (openAfter (roleAt s a) a (openBefore s a)) fs e in
     let same : fs ≡ openBefore s (suc a) = sym (ap orNone e) in
-    (record { stands = and-parts (beside s a) (fresh s a) (c .0) .0; next = c .1 ∙ ap Some same }, same)
+    let p = and-parts (beside s a) (fresh s a) (c .0) in
+    (record { stands = p .0; named = p .1; next = c .1 ∙ ap Some same }, same)
 
 -- at a plain instruction no rule breaks, and the frames stay
 kept-if-plain : (s : List Instruction) (a : ℕ) → roleAt s a ≡ Plain → Kept s a × (openBefore s a ≡ openBefore s (suc a))
@@ -131,6 +133,9 @@ module _ (s : List Instruction) (judged : framesJudged s ≡ Ok tt) where
 
   pub stands-beside : (a : ℕ) → beside s a ≡ true
   stands-beside a = kept a .stands
+
+  pub gives-a-fresh-name : (a : ℕ) → fresh s a ≡ true
+  gives-a-fresh-name a = kept a .named
 
   pub step : (a : ℕ) → Step (roleAt s a) a (openBefore s a) (openBefore s (suc a))
   step a = step-by-role (roleAt s a) a (openBefore s a) (openBefore s (suc a)) (kept a .next)

@@ -1,4 +1,4 @@
--- Where jumps go in a script whose references are judged to be right.
+-- What ends and jumps refer to in a script whose references are judged to be right.
 use mathlib.Core.Path.{_≡_, refl, sym, _∙_, ap, subst}
 use mathlib.Core.Bool.{Bool, true, false, _||_}
 use mathlib.Core.List.{List}
@@ -14,18 +14,19 @@ use Rattle.std.specs.declared.option.Option.the-variants.{Some, None}
 use Rattle.std.specs.declared.result.Result.{Result}
 use Rattle.std.specs.declared.result.Result.the-variants.{Ok}
 use Rattle.instruction.specs.declared.instruction.Instruction.{Instruction}
-use Rattle.instruction.specs.declared.instruction.Instruction.the-variants.{Jpc, Jmp}
+use Rattle.instruction.specs.declared.instruction.Instruction.the-variants.{Jpc, Jmp, Block, End}
 use Rattle.script.specs.declared.role.FrameKind.the-variants.{Procedure, Branch, Branches}
 use Rattle.script.specs.declared.role.Role.{Role}
 use Rattle.script.specs.declared.role.Role.the-variants.{Plain, JumpsIf, Jumps, Arrives, BeginsBlock, EndsBlock, Opens, Closes}
 use Rattle.script.specs.declared.refusal.ImageRefusal.{ImageRefusal}
-use Rattle.script.specs.declared.refusal.ImageRefusal.the-variants.{WrongTarget}
+use Rattle.script.specs.declared.refusal.ImageRefusal.the-variants.{EndWithoutBlock, WrongTarget}
 use Rattle.script.specs.Scripts.{instructionAt}
-use Rattle.script.specs.Roles.{roleOf, arrives, opensProcedure}
+use Rattle.script.specs.Roles.{roleOf, blockName, isNamed, arrives, opensProcedure}
 use Rattle.script.specs.Frames.{roleAt}
 use Rattle.script.specs.Regions.{region}
-use Rattle.script.specs.References.{labelFor, callFrom, unless, wrongBy, wrongReference, refusedOr, referencesFrom, referencesJudged}
+use Rattle.script.specs.References.{hasBlock, labelFor, callFrom, unless, wrongBy, wrongReference, refusedOr, referencesFrom, referencesJudged}
 use Rattle.script.specs.Flow.{LabelFor, CallFrom}
+use Rattle.script.proofs.Searches.{found-before}
 use Rattle.script.proofs.OpenFrames.{not-plain-is-within}
 use Rattle.script.proofs.RoleInstructions.{instruction-by-role}
 
@@ -86,6 +87,9 @@ call-from s a t e =
       returns = subst (LabelFor s a) (add-one a) (label-for s a (a + 1) (p .1));
     }
 
+begins-block-only : (n : ℕ) (r : Role) → isNamed n (blockName r) ≡ true → r ≡ BeginsBlock n
+begins-block-only n r e = grind arith
+
 module _ (s : List Instruction) (judged : referencesJudged s ≡ Ok tt) where
   right-by : (a : ℕ) (r : Role) → roleAt s a ≡ r → (r ≡ Plain → ⊥) → wrongBy s a r ≡ None
   right-by a r e n =
@@ -101,3 +105,8 @@ module _ (s : List Instruction) (judged : referencesJudged s ≡ Ok tt) where
       (λ l. inl (label-for s a t l))
       (λ c. inr (call-from s a t c))
       (or-cases (labelFor s a t) (callFrom s a t) (fine-unless (labelFor s a t || callFrom s a t) (WrongTarget a) (right-by a (Jumps t) (ap roleOf e) (λ p. grind arith))))
+
+  pub end-has-block : (a n : ℕ) → instructionAt s a ≡ End n → (b : ℕ) × (instructionAt s b ≡ Block n)
+  end-has-block a n e =
+      let found = found-before (λ i. isNamed n (blockName (roleOf i))) s (suc (length s)) (fine-unless (hasBlock s n) (EndWithoutBlock a) (right-by a (EndsBlock n) (ap roleOf e) (λ p. grind arith))) in
+      (found .0, instruction-by-role s (found .0) (BeginsBlock n) (begins-block-only n (roleAt s (found .0)) (found .1)))

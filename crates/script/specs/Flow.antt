@@ -5,14 +5,15 @@ use mathlib.Core.List.{List, [], _∷_}
 use mathlib.Core.Logic.{_⊎_}
 use Prim.Native.Nat.{ℕ, zero, suc, _≤_, _<_}
 use lib.ListN.{length, getD}
+use Rattle.std.specs.declared.option.Option.the-variants.{Some}
 use Rattle.instruction.specs.declared.instruction.Instruction.{Instruction}
-use Rattle.instruction.specs.declared.instruction.Instruction.the-variants.{Jpc, Jmp, Label, ParBegin, ParEnd, Proc, PReturn, Fork, Merge}
+use Rattle.instruction.specs.declared.instruction.Instruction.the-variants.{Jpc, Jmp, Label, ParBegin, ParEnd, Proc, PReturn, Block, End, Fork, Merge}
 use Rattle.script.specs.declared.role.FrameKind.{FrameKind}
 use Rattle.script.specs.declared.role.FrameKind.the-variants.{Procedure, Branch, Branches}
 use Rattle.script.specs.declared.role.Role.{Role}
 use Rattle.script.specs.declared.role.Role.the-variants.{Plain, JumpsIf, Jumps, Arrives, BeginsBlock, EndsBlock, Opens, Closes}
 use Rattle.script.specs.Scripts.{instructionAt}
-use Rattle.script.specs.Roles.{beginsBranch}
+use Rattle.script.specs.Roles.{givenName, beginsBranch}
 use Rattle.script.specs.Frames.{roleAt}
 use Rattle.script.specs.Regions.{region, partner}
 use Rattle.script.specs.Images.{Accepted}
@@ -109,6 +110,9 @@ pub record Flow (s : List Instruction) : Type 0 where
   pub jmp : (a t : ℕ) → instructionAt s a ≡ Jmp t → LabelFor s a t ⊎ CallFrom s a t
   pub fork : (a n : ℕ) → instructionAt s a ≡ Fork n → ForkAt s a n
   pub merge : (a n : ℕ) → instructionAt s a ≡ Merge n → (instructionAt s (partner s a) ≡ Fork n) × (partner s (partner s a) ≡ a)
+  -- a name is given once, and an end has its block
+  pub names : (a b n : ℕ) → givenName (roleAt s a) ≡ Some n → givenName (roleAt s b) ≡ Some n → a ≡ b
+  pub end : (a n : ℕ) → instructionAt s a ≡ End n → (b : ℕ) × (instructionAt s b ≡ Block n)
   -- a procedure and a branch are regions of their own, up to their end
   pub proc : (a p : ℕ) → instructionAt s a ≡ Proc p → region s a ≡ a
   pub procEnd : (a p : ℕ) → instructionAt s a ≡ PReturn p → instructionAt s (region s a) ≡ Proc p

@@ -16,7 +16,7 @@ use Rattle.script.specs.declared.refusal.ImageRefusal.{ImageRefusal}
 use Rattle.script.specs.Frames.{openAfter, framesJudged}
 use Rattle.script.specs.Regions.{around, innermost, region, closedBy}
 use Rattle.script.specs.Fronts.{framesOf}
-use Rattle.script.specs.Held.{HasPartners}
+use Rattle.script.specs.Held.{HasPartners, HasRegions}
 
 -- the frames that stand open
 abbrev pub openIn : Links → List Frame
@@ -39,10 +39,6 @@ TakenIn role a from true to =
     × (to .regions ≡ set (from .regions) (a - 1) (innermost (around role a (openIn from))))
     × (to .partners ≡ pairedIn a (closedBy role (openIn from)) (from .partners))
 TakenIn role a from false to = openAfter role a (openIn from) ≡ None
-
--- a table that has the region of each address of a script, from address 1 on
-abbrev pub HasRegions : List Instruction → List ℕ → Type 0
-HasRegions s table = (k : ℕ) → k < length s → getD table k 0 ≡ region s (suc k)
 
 -- what judging the frames of a script answers
 abbrev pub Linked : List Instruction → Result Links ImageRefusal → Type 0

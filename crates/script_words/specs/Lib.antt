@@ -1,0 +1,4 @@
+pub mod Operands
+pub mod Words
+pub mod Numbering
+pub mod RefusalWords

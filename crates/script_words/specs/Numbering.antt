@@ -1,0 +1,23 @@
+-- The lines of a script and of its mirrored script.
+use mathlib.Core.List.{List, [], _∷_, map, reverse}
+use Prim.Native.Nat.{ℕ, suc}
+use Rattle.instruction.specs.declared.instruction.Instruction.{Instruction}
+use Rattle.instruction.specs.declared.mirror.MirrorInstruction.{MirrorInstruction}
+use Rattle.instruction.specs.Mirrors.{mirrorOf}
+use Rattle.script_words.specs.declared.line.Line.{Line}
+use Rattle.script_words.specs.declared.mirror_line.MirrorLine.{MirrorLine}
+
+-- what is made of each element and its position; the first has the given one
+abbrev pub numberedFrom : {X Y : Type 0} → (ℕ → X → Y) → ℕ → List X → List Y
+numberedFrom line position [] = []
+numberedFrom line position (x ∷ xs) = line position x ∷ numberedFrom line (suc position) xs
+
+abbrev pub linesOf : List Instruction → List Line
+linesOf s = numberedFrom (λ position i. record { position = position; instruction = i }) 1 s
+
+abbrev pub mirrorLinesOf : List MirrorInstruction → List MirrorLine
+mirrorLinesOf s = numberedFrom (λ position i. record { position = position; instruction = i }) 1 s
+
+-- the instructions of the mirrored script: the mirror of the last one is the first
+abbrev pub mirrorsOf : List Instruction → List MirrorInstruction
+mirrorsOf s = map mirrorOf (reverse s)
