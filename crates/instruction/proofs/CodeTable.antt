@@ -7,7 +7,7 @@ use lib.Dec.{eqb}
 use Rattle.std.proofs.shelf.Tests.{eqb-true}
 use Rattle.std.specs.Options.{isSome}
 use Rattle.std.specs.declared.option.Option.{Option}
-use Rattle.std.specs.declared.option.Option.the-variants.{Some, None}
+use Rattle.std.specs.declared.option.Option.the-variants.{Some}
 use Rattle.varint.specs.Zigzag.{unfolded}
 use Rattle.varint.proofs.Foldings.{folded-unfolded}
 use Rattle.instruction.specs.declared.instruction.Instruction.{Instruction}

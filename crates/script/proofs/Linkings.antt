@@ -1,27 +1,25 @@
 -- The tables keep pace with the frames that are judged.
 use mathlib.Core.Path.{_≡_, refl, sym, ap, _∙_, subst}
-use mathlib.Core.Bool.{Bool, true, false, cond, _&&_}
+use mathlib.Core.Bool.{true, false, cond, _&&_}
 use mathlib.Core.List.{List, [], _∷_}
-use mathlib.Core.Logic.{_≢_, _⊎_, inl, inr, ⊎-elim}
-use Prim.Native.Nat.{ℕ, zero, suc, _+_, _-_, _≤_, _<_}
-use native.Mathlib.Numerals.{add-one}
+use mathlib.Core.Logic.{_⊎_, ⊎-elim}
+use Prim.Native.Nat.{ℕ, suc, _-_, _≤_, _<_}
 use native.Mathlib.Omega.{arith}
 use lib.Dec.{eqb}
 use lib.ListN.{length, getD, set, replicate}
 use Rattle.std.proofs.shelf.Lists.{getD-set-same, getD-set-other, getD-replicate, length-set}
-use Rattle.std.proofs.shelf.Tests.{cases-eq, cond-true, cond-false, eq-eqb, ne-eqb, and-from}
+use Rattle.std.proofs.shelf.Tests.{cases-eq, cond-true, cond-false, eq-eqb, ne-eqb}
 use Rattle.std.specs.declared.option.Option.{Option}
 use Rattle.std.specs.declared.option.Option.the-variants.{Some, None}
 use Rattle.std.specs.declared.result.Result.the-variants.{Ok, Err}
 use Rattle.instruction.specs.declared.instruction.Instruction.{Instruction}
-use Rattle.script.specs.declared.role.FrameKind.{FrameKind}
 use Rattle.script.specs.declared.role.Role.{Role}
 use Rattle.script.specs.declared.role.Role.the-variants.{Plain, JumpsIf, Jumps, Arrives, BeginsBlock, EndsBlock, Opens, Closes}
 use Rattle.script.specs.declared.frames.Frame.{Frame}
 use Rattle.script.specs.declared.links.Links.{Links}
 use Rattle.script.specs.declared.refusal.ImageRefusal.the-variants.{BrokenFrame}
 use Rattle.script.specs.Frames.{roleAt, beside, fresh, openAfter, framesAfter, allClosed, goOn, framesFrom, framesJudged}
-use Rattle.script.specs.Regions.{orNone, openBefore, around, innermost, region, innermostAddress, closedBy, paired, partnerBefore}
+use Rattle.script.specs.Regions.{orNone, openBefore, around, innermost, region, closedBy, paired, partnerBefore}
 use Rattle.script.specs.Framing.{isEmpty}
 use Rattle.script.specs.Linking.{openIn, OpenedBefore, pairedIn, TakenIn}
 use Rattle.script.specs.Held.{HasPartners, HasRegions}

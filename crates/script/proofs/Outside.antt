@@ -8,7 +8,6 @@ use native.Mathlib.Omega.{arith}
 use lib.Dec.{eqb, ltb}
 use lib.ListN.{length}
 use Rattle.std.proofs.shelf.Tests.{ne-eqb}
-use Rattle.std.specs.declared.option.Option.{Option}
 use Rattle.std.specs.declared.option.Option.the-variants.{Some, None}
 use Rattle.instruction.specs.declared.instruction.Instruction.{Instruction}
 use Rattle.script.specs.declared.role.FrameKind.{FrameKind}
@@ -17,9 +16,9 @@ use Rattle.script.specs.declared.role.Role.{Role}
 use Rattle.script.specs.declared.role.Role.the-variants.{Plain, JumpsIf, Jumps, Arrives, BeginsBlock, EndsBlock, Opens, Closes}
 use Rattle.script.specs.declared.frames.Frame.{Frame}
 use Rattle.script.specs.Roles.{sameKind}
-use Rattle.script.specs.Frames.{roleAt, opened, opening, enough, counted, without, closing, openAfter, beside, fresh, framesAfter}
+use Rattle.script.specs.Frames.{roleAt, opened, enough, without, openAfter, beside, fresh}
 use Rattle.script.specs.Linking.{OpenedBefore}
-use Rattle.script.specs.Regions.{orNone, openBefore, innermostAddress, closedBy, paired, partnerBefore, partner}
+use Rattle.script.specs.Regions.{orNone, openBefore, closedBy, paired, partnerBefore, partner}
 
 opened-on : (b : ℕ) (fs : List Frame) → OpenedBefore b fs → OpenedBefore (suc b) fs
 opened-on b [] h = tt

@@ -2,8 +2,8 @@
 use mathlib.Core.Path.{_≡_}
 use mathlib.Core.Bool.{Bool, true, false}
 use mathlib.Core.List.{List, [], _∷_}
-use Prim.Native.Nat.{ℕ, suc, _-_, _≤_, _<_}
-use lib.ListN.{length, getD, set}
+use Prim.Native.Nat.{ℕ, _-_, _≤_, _<_}
+use lib.ListN.{set}
 use Rattle.std.specs.declared.option.Option.{Option}
 use Rattle.std.specs.declared.option.Option.the-variants.{Some, None}
 use Rattle.std.specs.declared.result.Result.{Result}
@@ -14,7 +14,7 @@ use Rattle.script.specs.declared.frames.Frame.{Frame}
 use Rattle.script.specs.declared.links.Links.{Links}
 use Rattle.script.specs.declared.refusal.ImageRefusal.{ImageRefusal}
 use Rattle.script.specs.Frames.{openAfter, framesJudged}
-use Rattle.script.specs.Regions.{around, innermost, region, closedBy}
+use Rattle.script.specs.Regions.{around, innermost, closedBy}
 use Rattle.script.specs.Fronts.{framesOf}
 use Rattle.script.specs.Held.{HasPartners, HasRegions}
 

@@ -13,7 +13,7 @@ use Rattle.script.specs.declared.role.Role.{Role}
 use Rattle.script.specs.declared.role.Role.the-variants.{Plain, JumpsIf, Jumps, Arrives, BeginsBlock, EndsBlock, Opens, Closes}
 use Rattle.script.specs.declared.refusal.ImageRefusal.{ImageRefusal}
 use Rattle.script.specs.declared.refusal.ImageRefusal.the-variants.{EndWithoutBlock, WrongTarget}
-use Rattle.script.specs.Scripts.{instructionAt, someBefore}
+use Rattle.script.specs.Scripts.{someBefore}
 use Rattle.script.specs.Roles.{roleOf, blockName, isNamed, arrives, opensProcedure}
 use Rattle.script.specs.Frames.{roleAt}
 use Rattle.script.specs.Regions.{region}

@@ -1,6 +1,5 @@
 // Names that instructions give, looked for in a script.
 ghost use mathlib.Core.Path.{_≡_};
-ghost use Prim.Native.Nat.{_≤_};
 ghost use Rattle.script.specs.Scripts.{someBefore};
 ghost use Rattle.script.specs.Frames.{fresh};
 ghost use Rattle.script.specs.References.{hasBlock};

@@ -1,4 +1,3 @@
-use Rattle.script.specs.Fronts.{blank}
 use Rattle.script.proofs.OpenTables.{empty-front}
 use Rattle.script.proofs.frames.OpenFrames.is_empty.Needs as need
 

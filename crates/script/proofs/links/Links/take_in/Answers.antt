@@ -1,4 +1,3 @@
-use native.Mathlib.Omega.{arith}
 use Rattle.script.specs.Linking.{openIn}
 use Rattle.script.proofs.OpenTables.{countable-opened}
 use Rattle.script.proofs.links.Links.take_in.Needs as need
