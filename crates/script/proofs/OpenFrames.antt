@@ -22,7 +22,7 @@ use Rattle.script.specs.declared.role.Role.{Role}
 use Rattle.script.specs.declared.role.Role.the-variants.{Plain, JumpsIf, Jumps, Arrives, BeginsBlock, EndsBlock, Opens, Closes}
 use Rattle.script.specs.declared.frames.Frame.{Frame}
 use Rattle.script.specs.declared.refusal.ImageRefusal.{ImageRefusal}
-use Rattle.script.specs.Roles.{roleOf, sameKind}
+use Rattle.script.specs.Roles.{roleOf, byFraming, sameKind}
 use Rattle.script.specs.Frames.{roleAt, beside, fresh, opened, enough, without, openAfter, framesAfter, allClosed, goOn, framesFrom, framesJudged}
 use Rattle.script.specs.Regions.{orNone, openBefore}
 
@@ -83,14 +83,7 @@ none-open-first s = refl
 
 -- what an instruction does to the frames that stand open: it keeps them, opens one or closes the innermost
 abbrev pub keeps : Role → Bool
-keeps Plain = true
-keeps (JumpsIf t) = true
-keeps (Jumps t) = true
-keeps Arrives = true
-keeps (BeginsBlock b) = true
-keeps (EndsBlock b) = true
-keeps (Opens kind) = false
-keeps (Closes kind) = false
+keeps role = byFraming true (λ kind. false) (λ kind. false) role
 
 pub data Step (r : Role) (a : ℕ) (fs gs : List Frame) : Type 0 where
   stays : keeps r ≡ true → gs ≡ fs → Step r a fs gs

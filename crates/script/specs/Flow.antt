@@ -13,7 +13,7 @@ use Rattle.script.specs.declared.role.FrameKind.the-variants.{Procedure, Branc
 use Rattle.script.specs.declared.role.Role.{Role}
 use Rattle.script.specs.declared.role.Role.the-variants.{Plain, JumpsIf, Jumps, Arrives, BeginsBlock, EndsBlock, Opens, Closes}
 use Rattle.script.specs.Scripts.{instructionAt}
-use Rattle.script.specs.Roles.{givenName, beginsBranch}
+use Rattle.script.specs.Roles.{byFraming, givenName, beginsBranch}
 use Rattle.script.specs.Frames.{roleAt}
 use Rattle.script.specs.Regions.{region, partner}
 use Rattle.script.specs.Images.{Accepted}
@@ -51,14 +51,7 @@ fallenIntoCloser Branch = true
 fallenIntoCloser (Branches a) = false
 
 abbrev pub fallenInto : Role → Bool
-fallenInto Plain = true
-fallenInto (JumpsIf t) = true
-fallenInto (Jumps t) = true
-fallenInto Arrives = true
-fallenInto (BeginsBlock b) = true
-fallenInto (EndsBlock b) = true
-fallenInto (Opens kind) = fallenIntoOpener kind
-fallenInto (Closes kind) = fallenIntoCloser kind
+fallenInto role = byFraming true fallenIntoOpener fallenIntoCloser role
 
 -- at t there is a label of the region of the instruction at a
 pub record LabelFor (s : List Instruction) (a t : ℕ) : Type 0 where

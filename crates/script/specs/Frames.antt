@@ -12,12 +12,11 @@ use Rattle.instruction.specs.declared.instruction.Instruction.{Instruction}
 use Rattle.script.specs.declared.role.FrameKind.{FrameKind}
 use Rattle.script.specs.declared.role.FrameKind.the-variants.{Procedure, Branch, Branches}
 use Rattle.script.specs.declared.role.Role.{Role}
-use Rattle.script.specs.declared.role.Role.the-variants.{Plain, JumpsIf, Jumps, Arrives, BeginsBlock, EndsBlock, Opens, Closes}
 use Rattle.script.specs.declared.frames.Frame.{Frame}
 use Rattle.script.specs.declared.refusal.ImageRefusal.{ImageRefusal}
 use Rattle.script.specs.declared.refusal.ImageRefusal.the-variants.{BrokenFrame}
 use Rattle.script.specs.Scripts.{instructionAt, someBefore}
-use Rattle.script.specs.Roles.{roleOf, sameKind, givenName, isNamed, leaves, splits, beginsBranch, joins}
+use Rattle.script.specs.Roles.{roleOf, byFraming, sameKind, givenName, isNamed, leaves, splits, beginsBranch, joins}
 
 -- the role of the instruction at an address
 abbrev pub roleAt : List Instruction → ℕ → Role
@@ -38,14 +37,7 @@ closerBeside Branch after = joins after
 closerBeside (Branches a) after = true
 
 abbrev pub besideBy : Role → Role → Role → Bool
-besideBy Plain before after = true
-besideBy (JumpsIf a) before after = true
-besideBy (Jumps a) before after = true
-besideBy Arrives before after = true
-besideBy (BeginsBlock b) before after = true
-besideBy (EndsBlock b) before after = true
-besideBy (Opens kind) before after = openerBeside kind before after
-besideBy (Closes kind) before after = closerBeside kind after
+besideBy role before after = byFraming true (λ kind. openerBeside kind before after) (λ kind. closerBeside kind after) role
 
 abbrev pub beside : List Instruction → ℕ → Bool
 beside s a = besideBy (roleAt s a) (roleAt s (a - 1)) (roleAt s (a + 1))
@@ -94,14 +86,7 @@ closing kind [] = None
 closing kind (f ∷ fs) = cond (sameKind kind (f .kind) && enough kind (f .branches)) (Some (without kind fs)) None
 
 abbrev pub openAfter : Role → ℕ → List Frame → Option (List Frame)
-openAfter Plain a fs = Some fs
-openAfter (JumpsIf t) a fs = Some fs
-openAfter (Jumps t) a fs = Some fs
-openAfter Arrives a fs = Some fs
-openAfter (BeginsBlock b) a fs = Some fs
-openAfter (EndsBlock b) a fs = Some fs
-openAfter (Opens kind) a fs = opening kind a fs
-openAfter (Closes kind) a fs = closing kind fs
+openAfter role a fs = byFraming (Some fs) (λ kind. opening kind a fs) (λ kind. closing kind fs) role
 
 -- what stands open behind the instruction at an address, or none where a rule breaks there
 abbrev pub framesAfter : List Instruction → ℕ → List Frame → Option (List Frame)

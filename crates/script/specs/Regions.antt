@@ -10,8 +10,8 @@ use Rattle.instruction.specs.declared.instruction.Instruction.{Instruction}
 use Rattle.script.specs.declared.role.FrameKind.{FrameKind}
 use Rattle.script.specs.declared.role.FrameKind.the-variants.{Procedure, Branch, Branches}
 use Rattle.script.specs.declared.role.Role.{Role}
-use Rattle.script.specs.declared.role.Role.the-variants.{Plain, JumpsIf, Jumps, Arrives, BeginsBlock, EndsBlock, Opens, Closes}
 use Rattle.script.specs.declared.frames.Frame.{Frame}
+use Rattle.script.specs.Roles.{byFraming}
 use Rattle.script.specs.Frames.{roleAt, opened, framesAfter}
 
 -- the frames that stand open before an address, as far as no rule breaks
@@ -25,14 +25,7 @@ openBefore s (suc a) = orNone (framesAfter s a (openBefore s a))
 
 -- the frames around an instruction: with the one that it opens
 abbrev pub around : Role → ℕ → List Frame → List Frame
-around Plain a fs = fs
-around (JumpsIf t) a fs = fs
-around (Jumps t) a fs = fs
-around Arrives a fs = fs
-around (BeginsBlock b) a fs = fs
-around (EndsBlock b) a fs = fs
-around (Opens kind) a fs = opened kind a 0 ∷ fs
-around (Closes kind) a fs = fs
+around role a fs = byFraming fs (λ kind. opened kind a 0 ∷ fs) (λ kind. fs) role
 
 -- the address of the innermost procedure or branch; 0 is the whole script
 abbrev pub stretch : FrameKind → ℕ → ℕ → ℕ
@@ -54,14 +47,7 @@ innermostAddress [] = None
 innermostAddress (f ∷ fs) = Some (f .address)
 
 abbrev pub closedBy : Role → List Frame → Option ℕ
-closedBy Plain fs = None
-closedBy (JumpsIf t) fs = None
-closedBy (Jumps t) fs = None
-closedBy Arrives fs = None
-closedBy (BeginsBlock b) fs = None
-closedBy (EndsBlock b) fs = None
-closedBy (Opens kind) fs = None
-closedBy (Closes kind) fs = innermostAddress fs
+closedBy role fs = byFraming None (λ kind. None) (λ kind. innermostAddress fs) role
 
 -- a closer at an address and its opener are each other's partners
 abbrev pub paired : ℕ → Option ℕ → ℕ → ℕ → ℕ

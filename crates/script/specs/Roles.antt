@@ -31,6 +31,17 @@ roleOf (Fork a) = Opens (Branches a)
 roleOf (Merge a) = Closes (Branches a)
 roleOf Nop = Plain
 
+-- what is said of an opener, of a closer, and of every other instruction
+abbrev pub byFraming : {X : Type 0} → X → (FrameKind → X) → (FrameKind → X) → Role → X
+byFraming other opener closer Plain = other
+byFraming other opener closer (JumpsIf a) = other
+byFraming other opener closer (Jumps a) = other
+byFraming other opener closer Arrives = other
+byFraming other opener closer (BeginsBlock b) = other
+byFraming other opener closer (EndsBlock b) = other
+byFraming other opener closer (Opens kind) = opener kind
+byFraming other opener closer (Closes kind) = closer kind
+
 -- the same kind of frame, name for name
 abbrev pub sameKind : FrameKind → FrameKind → Bool
 sameKind (Procedure p) (Procedure q) = eqb p q
@@ -104,36 +115,15 @@ leaves (Closes kind) = isProcedure kind
 
 -- fork or par end
 abbrev pub splits : Role → Bool
-splits Plain = false
-splits (JumpsIf a) = false
-splits (Jumps a) = false
-splits Arrives = false
-splits (BeginsBlock b) = false
-splits (EndsBlock b) = false
-splits (Opens kind) = isBranches kind
-splits (Closes kind) = isBranch kind
+splits role = byFraming false isBranches isBranch role
 
 -- par begin
 abbrev pub beginsBranch : Role → Bool
-beginsBranch Plain = false
-beginsBranch (JumpsIf a) = false
-beginsBranch (Jumps a) = false
-beginsBranch Arrives = false
-beginsBranch (BeginsBlock b) = false
-beginsBranch (EndsBlock b) = false
-beginsBranch (Opens kind) = isBranch kind
-beginsBranch (Closes kind) = false
+beginsBranch role = byFraming false isBranch (λ kind. false) role
 
 -- par begin or merge
 abbrev pub joins : Role → Bool
-joins Plain = false
-joins (JumpsIf a) = false
-joins (Jumps a) = false
-joins Arrives = false
-joins (BeginsBlock b) = false
-joins (EndsBlock b) = false
-joins (Opens kind) = isBranch kind
-joins (Closes kind) = isBranches kind
+joins role = byFraming false isBranch isBranches role
 
 -- label
 abbrev pub arrives : Role → Bool
@@ -148,11 +138,4 @@ arrives (Closes kind) = false
 
 -- proc
 abbrev pub opensProcedure : Role → Bool
-opensProcedure Plain = false
-opensProcedure (JumpsIf a) = false
-opensProcedure (Jumps a) = false
-opensProcedure Arrives = false
-opensProcedure (BeginsBlock b) = false
-opensProcedure (EndsBlock b) = false
-opensProcedure (Opens kind) = isProcedure kind
-opensProcedure (Closes kind) = false
+opensProcedure role = byFraming false isProcedure (λ kind. false) role
