@@ -12,7 +12,7 @@ use Rattle.varint.specs.Zigzag.{unfolded}
 use Rattle.varint.proofs.Foldings.{folded-unfolded}
 use Rattle.instruction.specs.declared.instruction.Instruction.{Instruction}
 use Rattle.instruction.specs.declared.instruction.Instruction.the-variants.{Ipush, Label, ParBegin, ParEnd, Nop}
-use Rattle.instruction.specs.Codes.{codeAndOperand, instructionOf, operatorOf, only}
+use Rattle.instruction.specs.Codes.{codeAndOperand, instructionOf, opOf, only}
 
 -- what stands under one code of the table has that code, or it stands further on in the table
 row : (n code x k : ℕ) (here further : Option Instruction) (i : Instruction) → cond (eqb code k) here further ≡ Some i
@@ -31,7 +31,7 @@ allowed n false j i e = let z : _≡_ {A = ℕ} 0 1 = cc in absurd (omega arith)
 pushed : (n x : ℕ) (i : Instruction) → Some (Ipush (unfolded x)) ≡ Some i → codeAndOperand n i ≡ (1, x)
 pushed n x i e = let q : Ipush (unfolded x) ≡ i = cc in ap (codeAndOperand n) (sym q) ∙ ap (λ z. (1, z)) (folded-unfolded x)
 
-operated : (n x : ℕ) (i : Instruction) → operatorOf x ≡ Some i → codeAndOperand n i ≡ (6, x)
+operated : (n x : ℕ) (i : Instruction) → opOf x ≡ Some i → codeAndOperand n i ≡ (6, x)
 operated n x i e = grind arith
 
 labelled : (n x : ℕ) (i : Instruction) → only (eqb x n) Label ≡ Some i → codeAndOperand n i ≡ (7, x)

@@ -55,8 +55,8 @@ isName b = leb 1 b && leb b 255
 abbrev pub isTarget : ℕ → ℕ → Bool
 isTarget n a = leb 1 a && leb a n
 
-abbrev pub operatorOf : ℕ → Option Instruction
-operatorOf k =
+abbrev pub opOf : ℕ → Option Instruction
+opOf k =
     cond (eqb k 0) (Some (Op Add)) (
     cond (eqb k 1) (Some (Op Multiply)) (
     cond (eqb k 2) (Some (Op Subtract)) (
@@ -71,7 +71,7 @@ instructionOf n code x =
     cond (eqb code 3) (only (isVariable x) (Store x)) (
     cond (eqb code 4) (only (isTarget n x) (Jpc x)) (
     cond (eqb code 5) (only (isTarget n x) (Jmp x)) (
-    cond (eqb code 6) (operatorOf x) (
+    cond (eqb code 6) (opOf x) (
     cond (eqb code 7) (only (eqb x n) Label) (
     cond (eqb code 8) (cond (eqb x 0) (Some ParBegin) (only (eqb x 1) ParEnd)) (
     cond (eqb code 9) (only (isVariable x) (Alloc x)) (

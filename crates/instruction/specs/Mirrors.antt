@@ -26,18 +26,18 @@ mirrorOf (Merge a) = mirrored.RFork a
 mirrorOf Nop = mirrored.Nop
 
 -- the code of a mirrored instruction, and its operand
-abbrev pub mirrorCode : MirrorInstruction → ℕ × ℕ
-mirrorCode mirrored.Rjmp = (1, 0)
-mirrorCode (mirrored.Restore x) = (2, x)
-mirrorCode mirrored.RLabel = (3, 0)
-mirrorCode mirrored.ParBegin = (4, 0)
-mirrorCode mirrored.ParEnd = (4, 1)
-mirrorCode (mirrored.RAlloc x) = (5, x)
-mirrorCode (mirrored.Free x) = (6, x)
-mirrorCode (mirrored.RProc p) = (7, p)
-mirrorCode (mirrored.RReturn p) = (8, p)
-mirrorCode (mirrored.Block b) = (9, b)
-mirrorCode (mirrored.End b) = (10, b)
-mirrorCode (mirrored.RFork a) = (11, a)
-mirrorCode (mirrored.Merge a) = (12, a)
-mirrorCode mirrored.Nop = (15, 0)
+abbrev pub mirrorCodeAndOperand : MirrorInstruction → ℕ × ℕ
+mirrorCodeAndOperand mirrored.Rjmp = (1, 0)
+mirrorCodeAndOperand (mirrored.Restore x) = (2, x)
+mirrorCodeAndOperand mirrored.RLabel = (3, 0)
+mirrorCodeAndOperand mirrored.ParBegin = (4, 0)
+mirrorCodeAndOperand mirrored.ParEnd = (4, 1)
+mirrorCodeAndOperand (mirrored.RAlloc x) = (5, x)
+mirrorCodeAndOperand (mirrored.Free x) = (6, x)
+mirrorCodeAndOperand (mirrored.RProc p) = (7, p)
+mirrorCodeAndOperand (mirrored.RReturn p) = (8, p)
+mirrorCodeAndOperand (mirrored.Block b) = (9, b)
+mirrorCodeAndOperand (mirrored.End b) = (10, b)
+mirrorCodeAndOperand (mirrored.RFork a) = (11, a)
+mirrorCodeAndOperand (mirrored.Merge a) = (12, a)
+mirrorCodeAndOperand mirrored.Nop = (15, 0)

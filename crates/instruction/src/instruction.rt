@@ -28,7 +28,7 @@ pub enum Instruction {
     PReturn(u8), // ends it
     Block(u8), // begins the block of the name
     End(u8), // ends it
-    Fork(u8), // starts the branches that follow
-    Merge(u8), // waits for them
+    Fork(u8), // starts the branches that follow, and waits at the merge
+    Merge(u8), // removes the finished branches
     Nop, // does nothing
 }

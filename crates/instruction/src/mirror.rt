@@ -1,6 +1,6 @@
 // The instructions of a mirrored script, and their codes.
 ghost use mathlib.Core.Path.{_≡_};
-ghost use Rattle.instruction.specs.Mirrors.{mirrorOf, mirrorCode};
+ghost use Rattle.instruction.specs.Mirrors.{mirrorOf, mirrorCodeAndOperand};
 use crate::instruction::Instruction;
 
 #[derive(Clone, Copy)]
@@ -51,7 +51,7 @@ impl Instruction {
 impl MirrorInstruction {
     // The code and the operand that stand for it in an image.
     pub fn code_and_operand(self) -> (u32, u32)
-        ensures { λ r. ⌜ r ≡ mirrorCode self ⌝ }
+        ensures { λ r. ⌜ r ≡ mirrorCodeAndOperand self ⌝ }
     {
         match self {
             MirrorInstruction::Rjmp => (1, 0),

@@ -6,7 +6,7 @@ use failure::FailureFromImageRefusal;
 use failure::FailureFromInput;
 use failure::FailureFromIo;
 use failure::USAGE;
-use mirrored::mirror_image;
+use mirror::mirror_size;
 use program_input::Request;
 use program_input::asked;
 use script::reader::read;
@@ -17,7 +17,6 @@ use script_words::mirror_line::mirror_lines;
 use std::fmt::Display;
 
 mod failure;
-mod mirrored;
 
 fn main(rt: LibcRuntime) -> Result<(), Failure> {
     let result = run(&rt);
@@ -37,15 +36,11 @@ fn run(rt: &LibcRuntime) -> Result<(), Failure> {
     };
     let heap = rt.alloc();
     let script = read(bytes.as_slice())?;
-    let mirror = mirror_image(heap, &script)?;
-    show(rt, "script", lines(heap, &script)?.as_slice(), bytes.len())?;
+    let forward = lines(heap, &script)?;
+    let mirrored = mirror_lines(heap, &script)?;
+    show(rt, "script", forward.as_slice(), bytes.len())?;
     println!(rt)?;
-    show(
-        rt,
-        "mirror",
-        mirror_lines(heap, &script)?.as_slice(),
-        mirror.len(),
-    )
+    show(rt, "mirror", mirrored.as_slice(), mirror_size(&script))
 }
 
 // A heading, and the lines below it.

@@ -4,7 +4,7 @@ use mathlib.Core.List.{List, [], _++_}
 use Prim.Native.Nat.{ℕ, _+_, _≤_}
 use native.Mathlib.Omega.{arith}
 use lib.ListN.{length, take, drop}
-use Rattle.std.proofs.shelf.Lists.{append-nil, length-append, take-append-drop, drop-all}
+use Rattle.std.proofs.shelf.Lists.{length-append, take-append-drop}
 use Rattle.std.specs.declared.result.Result.{Result}
 use Rattle.std.specs.declared.result.Result.the-variants.{Ok, Err}
 use Rattle.varint.specs.Writings.{writing}
@@ -24,11 +24,6 @@ written-none xs ws at e h = record {
 pub wrote-behind : {E : Type 0} (xs ys zs p q : List ℕ) (at mid : ℕ) (r : Result ℕ E) → Written xs at p mid ys → Wrote ys mid q r zs → length ys ≡ length xs → at + length (p ++ q) ≤ length xs → Wrote xs at (p ++ q) r zs
 wrote-behind xs ys zs p q at mid (Ok end) v w l room = written-joined xs ys zs p q at mid end v w (omega (arith, w .within))
 wrote-behind xs ys zs p q at mid (Err e) v w l room = absurd (omega (arith, w .0, v .ends, length-append p q))
-
--- into just as much room as they need
-pub wrote-all : {E : Type 0} (xs ws ys : List ℕ) (r : Result ℕ E) → length xs ≡ length ws → Wrote xs 0 ws r ys → ys ≡ ws
-wrote-all xs ws ys (Ok end) l w = w .bytes ∙ ap (λ t. ws ++ t) (drop-all end xs (omega (arith, w .ends))) ∙ append-nil ws
-wrote-all xs ws ys (Err e) l w = absurd (omega (arith, w .0))
 
 -- behind the count of a mirrored script
 module _ (s : List Instruction) (xs ys : List ℕ) (n mid : ℕ) (count : n ≡ length s) (v : Written xs 0 (writing n) mid ys) (l : length ys ≡ length xs) (room : length (mirrorImage s) ≤ length xs) where

@@ -3,12 +3,12 @@ use mathlib.Core.List.{List, map, reverse}
 use Prim.Native.Nat.{ℕ}
 use Rattle.std.specs.Joined.{joined}
 use Rattle.instruction.specs.declared.instruction.Instruction.{Instruction}
-use Rattle.instruction.specs.Mirrors.{mirrorOf, mirrorCode}
+use Rattle.instruction.specs.Mirrors.{mirrorOf, mirrorCodeAndOperand}
 use Rattle.script.specs.Images.{pairBytes, imageOf}
 
 -- the code and the operand of an instruction's mirror
 abbrev pub mirrorPair : Instruction → ℕ × ℕ
-mirrorPair i = mirrorCode (mirrorOf i)
+mirrorPair i = mirrorCodeAndOperand (mirrorOf i)
 
 -- the codes and operands of the mirrored script
 abbrev pub mirrorPairs : List Instruction → List (ℕ × ℕ)

@@ -1,6 +1,7 @@
 // Why a mirrored script is not written.
 ghost use mathlib.Core.Path.{_≡_};
 ghost use Rattle.mirror.specs.Refusals.{told};
+ghost use Rattle.mirror.specs.declared.refusal.MirrorRefusal.the-variants.{BufferTooShort};
 use varint::number::NoRoom;
 
 #[derive(Clone, Copy, PartialEq, Eq, Debug)]
@@ -21,6 +22,8 @@ impl MirrorRefusal {
 
 // Where a number finds no room, the mirrored script does not fit.
 pub impl From<NoRoom> for MirrorRefusal as MirrorRefusalFromNoRoom {
+    ghost converts = { λ _ r. r ≡ BufferTooShort };
+
     fn from(_no_room: NoRoom) -> MirrorRefusal {
         MirrorRefusal::BufferTooShort
     }

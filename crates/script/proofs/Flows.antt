@@ -9,20 +9,20 @@ use Rattle.std.specs.declared.result.Result.the-variants.{Ok}
 use Rattle.instruction.specs.declared.instruction.Instruction.{Instruction}
 use Rattle.instruction.specs.declared.instruction.Instruction.the-variants.{Fork}
 use Rattle.script.specs.declared.role.FrameKind.{FrameKind}
-use Rattle.script.specs.declared.role.FrameKind.the-variants.{Procedure, Branch, Branches}
+use Rattle.script.specs.declared.role.FrameKind.the-variants.{Procedure, Branch, Forked}
 use Rattle.script.specs.declared.role.Role.{Role}
 use Rattle.script.specs.declared.role.Role.the-variants.{Opens, Closes}
 use Rattle.script.specs.declared.frames.Frame.{Frame}
 use Rattle.script.specs.Scripts.{instructionAt}
 use Rattle.script.specs.Roles.{roleOf}
 use Rattle.script.specs.Frames.{roleAt, besideBy, without, framesJudged}
-use Rattle.script.specs.Regions.{openBefore, around, stretch, innermost, region, partner}
-use Rattle.script.specs.Flow.{falls, fallsFromCloser, fallenInto, AcceptedScriptsFlow}
+use Rattle.script.specs.Regions.{openBefore, around, regionFrom, innermost, region, partner}
+use Rattle.script.specs.Flow.{falls, fallenInto, StretchAt, AcceptedScriptsFlow}
 use Rattle.script.proofs.Acceptance.{AcceptedParts, accepted-parts}
 use Rattle.script.proofs.OpenFrames.{keeps, stands-beside}
 use Rattle.script.proofs.Nesting.{Chain, done, onward, Passing, keeping, opening, closing, passing, branches-up-to-merge}
-use Rattle.script.proofs.Partners.{closer-closes, partners}
-use Rattle.script.proofs.RoleInstructions.{opener, instruction-by-role}
+use Rattle.script.proofs.Partners.{closer-closes, opener-is-closed, partners}
+use Rattle.script.proofs.RoleInstructions.{opener, closer, instruction-by-role}
 use Rattle.script.proofs.Forks.{opener-region, closer-region, fork-at}
 use Rattle.script.proofs.GivenNames.{given-once}
 use Rattle.script.proofs.Targets.{jpc-to-label, jmp-to-label-or-proc, end-has-block}
@@ -33,7 +33,7 @@ stops-before {s} done x e f b g = let q : x ≡ b = omega arith in subst (λ n. 
 stops-before (onward {c = c} l rest) x e f b g = stops-before rest c refl (ap falls (l .closer)) b g
 
 -- what stands beside an instruction keeps control from going on to a proc or a par begin
-fallen-into : (r before after : Role) → besideBy r before after ≡ true → falls before ≡ true → ((n : ℕ) → r ≡ Closes (Branches n) → ⊥) → fallenInto r ≡ true
+fallen-into : (r before after : Role) → besideBy r before after ≡ true → falls before ≡ true → ((n : ℕ) → r ≡ Closes (Forked n) → ⊥) → fallenInto r ≡ true
 fallen-into r before after b f m = grind arith
 
 -- the region where control comes from and goes to
@@ -43,13 +43,13 @@ fallen-into-region r a fs e = grind arith
 keeping-is-around : (r : Role) (a : ℕ) (fs : List Frame) → keeps r ≡ true → fs ≡ around r a fs
 keeping-is-around r a fs e = grind arith
 
-closed-region : (kind : FrameKind) (x : ℕ) (fs : List Frame) → fallsFromCloser kind ≡ true → innermost (without kind fs) ≡ stretch kind x (innermost fs)
+closed-region : (kind : FrameKind) (x : ℕ) (fs : List Frame) → falls (Closes kind) ≡ true → innermost (without kind fs) ≡ regionFrom kind x (innermost fs)
 closed-region kind x fs e = grind arith
 
 module _ (s : List Instruction) (judged : framesJudged s ≡ Ok tt) where
-  merge-is-not-fallen-into : (a n : ℕ) → falls (roleAt s a) ≡ true → roleAt s (suc a) ≡ Closes (Branches n) → ⊥
+  merge-is-not-fallen-into : (a n : ℕ) → falls (roleAt s a) ≡ true → roleAt s (suc a) ≡ Closes (Forked n) → ⊥
   merge-is-not-fallen-into a n f r =
-      let w = closer-closes s judged (suc a) (Branches n) r in
+      let w = closer-closes s judged (suc a) (Forked n) r in
       both-ways (falls (roleAt s a)) (stops-before (branches-up-to-merge s judged n (w .0) (suc a) (w .1)) (w .0) refl (ap falls (w .1 .opener)) a refl) f
 
   -- where control goes on, the frames behind are those around
@@ -70,18 +70,28 @@ module _ (s : List Instruction) (judged : framesJudged s ≡ Ok tt) where
       (i, fallen-into-region (roleAt s (suc a)) (suc a) (openBefore s (suc a)) i ∙ innermost-behind a f)
 
   -- a p_return and a par end stand in the region of their opener
-  region-has-opener : (a : ℕ) (kind : FrameKind) → roleAt s a ≡ Closes kind → ((x outer : ℕ) → stretch kind x outer ≡ x) → instructionAt s (region s a) ≡ opener kind
+  region-has-opener : (a : ℕ) (kind : FrameKind) → roleAt s a ≡ Closes kind → ((x outer : ℕ) → regionFrom kind x outer ≡ x) → instructionAt s (region s a) ≡ opener kind
   region-has-opener a kind r own =
       let w = closer-closes s judged a kind r in
       let o = w .1 .opener in
       let e : region s a ≡ w .0 = closer-region (w .1) ∙ opener-region s (w .0) kind o ∙ own (w .0) (innermost (openBefore s (w .0))) in
       ap (instructionAt s) e ∙ instruction-by-role s (w .0) (Opens kind) o
 
-  merge-of-fork : (a n : ℕ) → roleAt s a ≡ Closes (Branches n) → (instructionAt s (partner s a) ≡ Fork n) × (partner s (partner s a) ≡ a)
-  merge-of-fork a n r =
-      let w = closer-closes s judged a (Branches n) r in
+  stretch-at : (a : ℕ) (kind : FrameKind) → roleAt s a ≡ Opens kind → ((x outer : ℕ) → regionFrom kind x outer ≡ x) → StretchAt s a (closer kind)
+  stretch-at a kind r own =
+      let w = opener-is-closed s judged a kind r in
       let p = partners s judged (w .1) in
-      (ap (instructionAt s) (p .1) ∙ instruction-by-role s (w .0) (Opens (Branches n)) (w .1 .opener), ap (partner s) (p .1) ∙ p .0)
+      record {
+        ownRegion = opener-region s a kind r ∙ own a (innermost (openBefore s a));
+        closes = ap (instructionAt s) (p .0) ∙ instruction-by-role s (w .0) (Closes kind) (w .1 .closer);
+        back = ap (partner s) (p .0) ∙ p .1;
+      }
+
+  merge-of-fork : (a n : ℕ) → roleAt s a ≡ Closes (Forked n) → (instructionAt s (partner s a) ≡ Fork n) × (partner s (partner s a) ≡ a)
+  merge-of-fork a n r =
+      let w = closer-closes s judged a (Forked n) r in
+      let p = partners s judged (w .1) in
+      (ap (instructionAt s) (p .1) ∙ instruction-by-role s (w .0) (Opens (Forked n)) (w .1 .opener), ap (partner s) (p .1) ∙ p .0)
 
 -- before the first instruction it is the whole script's
 whole-script : (s : List Instruction) → region s 0 ≡ 0
@@ -100,7 +110,8 @@ accepted-scripts-flow s accepted =
       merge = λ a n i. merge-of-fork s judged a n (ap roleOf i);
       names = given-once s judged;
       end = end-has-block s (parts .references);
-      proc = λ a p i. opener-region s a (Procedure p) (ap roleOf i);
+      proc = λ a p i. stretch-at s judged a (Procedure p) (ap roleOf i) (λ x outer. refl);
+      branch = λ a i. stretch-at s judged a Branch (ap roleOf i) (λ x outer. refl);
       procEnd = λ a p i. region-has-opener s judged a (Procedure p) (ap roleOf i) (λ x outer. refl);
       branchEnd = λ a i. region-has-opener s judged a Branch (ap roleOf i) (λ x outer. refl);
     }

@@ -9,19 +9,19 @@ use Rattle.std.specs.declared.result.Result.the-variants.{Ok}
 use Rattle.instruction.specs.declared.instruction.Instruction.{Instruction}
 use Rattle.instruction.specs.declared.instruction.Instruction.the-variants.{ParEnd}
 use Rattle.script.specs.declared.role.FrameKind.{FrameKind}
-use Rattle.script.specs.declared.role.FrameKind.the-variants.{Branch, Branches}
+use Rattle.script.specs.declared.role.FrameKind.the-variants.{Branch, Forked}
 use Rattle.script.specs.declared.role.Role.the-variants.{Opens, Closes}
 use Rattle.script.specs.Scripts.{instructionAt}
 use Rattle.script.specs.Roles.{roleOf, beginsBranch}
-use Rattle.script.specs.Frames.{roleAt, framesJudged, enough}
-use Rattle.script.specs.Regions.{openBefore, region, stretch, innermost, partner}
-use Rattle.script.specs.Flow.{branchesFrom, BranchOf, ForkAt}
+use Rattle.script.specs.Frames.{roleAt, framesJudged, rightCount}
+use Rattle.script.specs.Regions.{openBefore, region, regionFrom, innermost, partner}
+use Rattle.script.specs.Flow.{branchesFrom, BranchOf, ForkAt, behind}
 use Rattle.script.proofs.Nesting.{Closed, Chain, done, onward, branches-up-to-merge}
 use Rattle.script.proofs.Partners.{closed-is-within, closed-once, closer-closes, opener-is-closed, partners}
 use Rattle.script.proofs.RoleInstructions.{instruction-by-role}
 
 -- an opener and its closer are of one region, which for a procedure or branch is its own
-pub opener-region : (s : List Instruction) (x : ℕ) (kind : FrameKind) → roleAt s x ≡ Opens kind → region s x ≡ stretch kind x (innermost (openBefore s x))
+pub opener-region : (s : List Instruction) (x : ℕ) (kind : FrameKind) → roleAt s x ≡ Opens kind → region s x ≡ regionFrom kind x (innermost (openBefore s x))
 unfolding region
 opener-region s x kind r = rw r
 
@@ -29,8 +29,8 @@ pub closer-region : {s : List Instruction} {kind : FrameKind} {x c : ℕ} → Cl
 unfolding region
 closer-region l = rw (l .closer, l .before, l .opener)
 
-enough-branches : (n k : ℕ) → enough (Branches n) k ≡ true → (2 ≤ k) × (k ≤ 7)
-enough-branches n k e = (grind arith, grind arith)
+right-count-is-two-to-seven : (n k : ℕ) → rightCount (Forked n) k ≡ true → (2 ≤ k) × (k ≤ 7)
+right-count-is-two-to-seven n k e = (grind arith, grind arith)
 
 -- a branch that stands between a and m
 record Within (s : List Instruction) (a m begin end : ℕ) : Type 0 where
@@ -45,10 +45,11 @@ chain-is-long (onward l rest) = let u = chain-is-long rest in let o = l .order i
 
 record Listed (s : List Instruction) (a m k : ℕ) (bs : List (ℕ × ℕ)) : Type 0 where
   pub count : length bs ≡ k
+  pub directly : behind a bs ≡ m
   pub each : (j : ℕ) → j < length bs → Within s a m (getD bs j (0, 0) .0) (getD bs j (0, 0) .1)
 
 one-more-listed : (s : List Instruction) (a c m k : ℕ) (bs : List (ℕ × ℕ)) → Closed s Branch a c → Chain s (suc c) k m → Listed s (suc c) m k bs → Listed s a m (suc k) ((a, c) ∷ bs)
-one-more-listed s a c m k bs l rest others = record { count = ap suc (others .count); each = each }
+one-more-listed s a c m k bs l rest others = record { count = ap suc (others .count); directly = others .directly; each = each }
   where
     each : (j : ℕ) → j < suc (length bs) → Within s a m (getD ((a, c) ∷ bs) j (0, 0) .0) (getD ((a, c) ∷ bs) j (0, 0) .1)
     each zero h = record { behind = omega arith; whole = l; ahead = omega (arith, chain-is-long rest) }
@@ -65,7 +66,7 @@ module _ (s : List Instruction) (judged : framesJudged s ≡ Ok tt) where
   branch-here a c most l = rw (l .opener, partners s judged l .0)
 
   chain-is-listed : (a k m most : ℕ) → Chain s a k m → beginsBranch (roleAt s m) ≡ false → k ≤ most → Listed s a m k (branchesFrom s most a)
-  chain-is-listed a k m most done b u = subst (Listed s a m 0) (sym (no-branch-here a most b)) (record { count = refl; each = λ j l. absurd (omega arith) })
+  chain-is-listed a k m most done b u = subst (Listed s a m 0) (sym (no-branch-here a most b)) (record { count = refl; directly = refl; each = λ j l. absurd (omega arith) })
   chain-is-listed a k m zero (onward l rest) b u = absurd (omega arith)
   chain-is-listed a k m (suc most) (onward {c = c} {k = n} l rest) b u =
       subst (Listed s a m k) (sym (branch-here a c most l)) (one-more-listed s a c m n (branchesFrom s most (suc c)) l rest (chain-is-listed (suc c) n m most rest b (omega arith)))
@@ -93,7 +94,7 @@ module _ (s : List Instruction) (judged : framesJudged s ≡ Ok tt) where
           let e : c .0 ≡ begin = sym (opener-region s (c .0) Branch (c .1 .opener)) ∙ sym (closer-region (c .1)) ∙ r in
           closed-once s judged (subst (λ x. Closed s Branch x a) e (c .1)) l
 
-  fork-with-merge : (n f m : ℕ) → Closed s (Branches n) f m → ForkAt s f n
+  fork-with-merge : (n f m : ℕ) → Closed s (Forked n) f m → ForkAt s f n
   fork-with-merge n f m l =
       let p = partners s judged l in
       let q : partner s f ≡ m = p .0 in
@@ -103,15 +104,16 @@ module _ (s : List Instruction) (judged : framesJudged s ≡ Ok tt) where
       let long = chain-is-long chain in
       let listed = chain-is-listed (suc f) (l .count) m (length s) chain (ap beginsBranch (l .closer)) (omega arith) in
       let same = listed .count in
-      let few = enough-branches n (l .count) (l .counts) in
+      let few = right-count-is-two-to-seven n (l .count) (l .counts) in
       record {
         order = (omega arith, omega arith, omega arith);
-        merge = ap (instructionAt s) q ∙ instruction-by-role s m (Closes (Branches n)) (l .closer);
+        merge = ap (instructionAt s) q ∙ instruction-by-role s m (Closes (Forked n)) (l .closer);
         back = ap (partner s) q ∙ p .1;
         sameRegion = ap (region s) q ∙ closer-region l;
         count = (omega arith, omega arith);
+        directly = listed .directly ∙ sym q;
         each = λ k u. branch-within f m _ _ q (listed .each k u);
       }
 
-  pub fork-at : (f n : ℕ) → roleAt s f ≡ Opens (Branches n) → ForkAt s f n
-  fork-at f n r = let w = opener-is-closed s judged f (Branches n) r in fork-with-merge n f (w .0) (w .1)
+  pub fork-at : (f n : ℕ) → roleAt s f ≡ Opens (Forked n) → ForkAt s f n
+  fork-at f n r = let w = opener-is-closed s judged f (Forked n) r in fork-with-merge n f (w .0) (w .1)

@@ -10,12 +10,12 @@ use Rattle.std.proofs.shelf.Tests.{cases-lt, both-ways}
 use Rattle.std.specs.declared.result.Result.the-variants.{Ok}
 use Rattle.instruction.specs.declared.instruction.Instruction.{Instruction}
 use Rattle.script.specs.declared.role.FrameKind.{FrameKind}
-use Rattle.script.specs.declared.role.FrameKind.the-variants.{Procedure, Branch, Branches}
+use Rattle.script.specs.declared.role.FrameKind.the-variants.{Procedure, Branch, Forked}
 use Rattle.script.specs.declared.role.Role.{Role}
 use Rattle.script.specs.declared.role.Role.the-variants.{Opens, Closes}
 use Rattle.script.specs.declared.frames.Frame.{Frame}
-use Rattle.script.specs.Roles.{isBranches, splits, joins}
-use Rattle.script.specs.Frames.{roleAt, besideBy, opened, enough, counted, without, framesJudged}
+use Rattle.script.specs.Roles.{isForked, beforeBranch, afterBranch}
+use Rattle.script.specs.Frames.{roleAt, besideBy, opened, rightCount, counted, without, framesJudged}
 use Rattle.script.specs.Regions.{openBefore}
 use Rattle.script.proofs.OpenFrames.{keeps, Step, stays, opens, closes, step, stands-beside}
 
@@ -25,7 +25,7 @@ pub record Closed (s : List Instruction) (kind : FrameKind) (x c : ℕ) : Type 0
   pub opener : roleAt s x ≡ Opens kind
   pub closer : roleAt s c ≡ Closes kind
   pub count : ℕ
-  pub counts : enough kind count ≡ true
+  pub counts : rightCount kind count ≡ true
   pub before : openBefore s c ≡ opened kind x count ∷ openBefore s x
   pub behind : openBefore s (suc c) ≡ without kind (openBefore s x)
 
@@ -43,7 +43,7 @@ record Formed (s : List Instruction) (b : ℕ) (f : Frame) (fs : List Frame) : T
   pub early : f .address < b
   pub opener : roleAt s (f .address) ≡ Opens (f .kind)
   pub outside : fs ≡ openBefore s (f .address)
-  pub ended : isBranches (f .kind) ≡ true → Chain s (suc (f .address)) (f .branches) b
+  pub ended : isForked (f .kind) ≡ true → Chain s (suc (f .address)) (f .branches) b
 
 abbrev InnermostFormed : List Instruction → ℕ → List Frame → Type 0
 InnermostFormed s b [] = Unit {0}
@@ -56,22 +56,22 @@ pub data Passing (s : List Instruction) (b : ℕ) : Type 0 where
   closing : (kind : FrameKind) (x : ℕ) → Closed s kind x b → Passing s b
 
 -- a fork or par end stands before a par begin or merge
-split-is-joined : (r before after : Role) → splits r ≡ true → besideBy r before after ≡ true → joins after ≡ true
+split-is-joined : (r before after : Role) → beforeBranch r ≡ true → besideBy r before after ≡ true → afterBranch after ≡ true
 split-is-joined r before after h b = grind arith
 
-keeping-is-no-joining : (r : Role) → keeps r ≡ true → joins r ≡ false
+keeping-is-no-joining : (r : Role) → keeps r ≡ true → afterBranch r ≡ false
 keeping-is-no-joining r h = grind arith
 
 module _ (s : List Instruction) (judged : framesJudged s ≡ Ok tt) where
-  split-then-joins : (a : ℕ) → splits (roleAt s a) ≡ true → joins (roleAt s (suc a)) ≡ true
-  split-then-joins a h = subst (λ n. joins (roleAt s n) ≡ true) (add-one a) (split-is-joined (roleAt s a) (roleAt s (a - 1)) (roleAt s (a + 1)) h (stands-beside s judged a))
+  split-then-afterBranch : (a : ℕ) → beforeBranch (roleAt s a) ≡ true → afterBranch (roleAt s (suc a)) ≡ true
+  split-then-afterBranch a h = subst (λ n. afterBranch (roleAt s n) ≡ true) (add-one a) (split-is-joined (roleAt s a) (roleAt s (a - 1)) (roleAt s (a + 1)) h (stands-beside s judged a))
 
-  chain-then-joins : {a k b : ℕ} → Chain s a k b → joins (roleAt s a) ≡ true → joins (roleAt s b) ≡ true
-  chain-then-joins done h = h
-  chain-then-joins (onward {c = c} first rest) h = chain-then-joins rest (split-then-joins c (ap splits (first .closer)))
+  chain-then-afterBranch : {a k b : ℕ} → Chain s a k b → afterBranch (roleAt s a) ≡ true → afterBranch (roleAt s b) ≡ true
+  chain-then-afterBranch done h = h
+  chain-then-afterBranch (onward {c = c} first rest) h = chain-then-afterBranch rest (split-then-afterBranch c (ap beforeBranch (first .closer)))
 
   -- so an instruction that is no par begin or merge does not stand directly in a fork, and what was formed stays so
-  stays-formed : (b c : ℕ) (fs : List Frame) → b < c → joins (roleAt s b) ≡ false → InnermostFormed s b fs → InnermostFormed s c fs
+  stays-formed : (b c : ℕ) (fs : List Frame) → b < c → afterBranch (roleAt s b) ≡ false → InnermostFormed s b fs → InnermostFormed s c fs
   stays-formed b c [] l j w = tt
   stays-formed b c (f ∷ fs) l j w =
       let e : f .address < b = w .early in
@@ -79,11 +79,11 @@ module _ (s : List Instruction) (judged : framesJudged s ≡ Ok tt) where
         early = omega arith;
         opener = w .opener;
         outside = w .outside;
-        ended = λ h. absurd (both-ways (joins (roleAt s b)) j (chain-then-joins (w .ended h) (split-then-joins (f .address) (ap splits (w .opener) ∙ h))));
+        ended = λ h. absurd (both-ways (afterBranch (roleAt s b)) j (chain-then-afterBranch (w .ended h) (split-then-afterBranch (f .address) (ap beforeBranch (w .opener) ∙ h))));
       }
 
   -- the frames that stand open are formed at every address
-  closed-here : (c : ℕ) (f : Frame) (fs : List Frame) → Formed s c f fs → roleAt s c ≡ Closes (f .kind) → enough (f .kind) (f .branches) ≡ true
+  closed-here : (c : ℕ) (f : Frame) (fs : List Frame) → Formed s c f fs → roleAt s c ≡ Closes (f .kind) → rightCount (f .kind) (f .branches) ≡ true
       → openBefore s c ≡ f ∷ fs → openBefore s (suc c) ≡ without (f .kind) fs → Closed s (f .kind) (f .address) c
   closed-here c f fs w r n e g =
       record {
@@ -104,9 +104,9 @@ module _ (s : List Instruction) (judged : framesJudged s ≡ Ok tt) where
       record { early = omega arith; opener = w .opener; outside = w .outside; ended = λ h. one-branch-more (w .ended h) l }
 
   closed-formed : (kind : FrameKind) (x c : ℕ) → Closed s kind x c → InnermostFormed s x (openBefore s x) → InnermostFormed s (suc c) (without kind (openBefore s x))
-  closed-formed (Procedure p) x c l w = stays-formed x (suc c) (openBefore s x) (omega (arith, l .order)) (ap joins (l .opener)) w
+  closed-formed (Procedure p) x c l w = stays-formed x (suc c) (openBefore s x) (omega (arith, l .order)) (ap afterBranch (l .opener)) w
   closed-formed Branch x c l w = branch-counted x c (openBefore s x) l w
-  closed-formed (Branches n) x c l w = stays-formed x (suc c) (openBefore s x) (omega (arith, l .order)) (ap joins (l .opener)) w
+  closed-formed (Forked n) x c l w = stays-formed x (suc c) (openBefore s x) (omega (arith, l .order)) (ap afterBranch (l .opener)) w
 
   formed-next : (b : ℕ) → ((x : ℕ) → x ≤ b → InnermostFormed s x (openBefore s x)) → InnermostFormed s (suc b) (openBefore s (suc b))
   formed-next b earlier = at (step s judged b)
@@ -141,7 +141,7 @@ module _ (s : List Instruction) (judged : framesJudged s ≡ Ok tt) where
       at (closes f rest r n e g) = closing (f .kind) (f .address) (closed-here b f rest (subst (InnermostFormed s b) e (formed b)) r n e g)
 
   -- a merge stands directly behind the last branch of its fork
-  pub branches-up-to-merge : (n f m : ℕ) (l : Closed s (Branches n) f m) → Chain s (suc f) (l .count) m
+  pub branches-up-to-merge : (n f m : ℕ) (l : Closed s (Forked n) f m) → Chain s (suc f) (l .count) m
   branches-up-to-merge n f m l =
-      let w : Formed s m (opened (Branches n) f (l .count)) (openBefore s f) = subst (InnermostFormed s m) (l .before) (formed m) in
+      let w : Formed s m (opened (Forked n) f (l .count)) (openBefore s f) = subst (InnermostFormed s m) (l .before) (formed m) in
       w .ended refl

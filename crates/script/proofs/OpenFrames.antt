@@ -23,7 +23,7 @@ use Rattle.script.specs.declared.role.Role.the-variants.{Plain, JumpsIf, Jumps
 use Rattle.script.specs.declared.frames.Frame.{Frame}
 use Rattle.script.specs.declared.refusal.ImageRefusal.{ImageRefusal}
 use Rattle.script.specs.Roles.{roleOf, byFraming, sameKind}
-use Rattle.script.specs.Frames.{roleAt, beside, fresh, opened, enough, without, openAfter, framesAfter, allClosed, goOn, framesFrom, framesJudged}
+use Rattle.script.specs.Frames.{roleAt, beside, fresh, opened, rightCount, without, openAfter, framesAfter, allClosed, goOn, framesFrom, framesJudged}
 use Rattle.script.specs.Regions.{orNone, openBefore}
 
 -- before the first instruction and behind the last all is plain
@@ -88,7 +88,7 @@ keeps role = byFraming true (λ kind. false) (λ kind. false) role
 pub data Step (r : Role) (a : ℕ) (fs gs : List Frame) : Type 0 where
   stays : keeps r ≡ true → gs ≡ fs → Step r a fs gs
   opens : (kind : FrameKind) → r ≡ Opens kind → gs ≡ opened kind a 0 ∷ fs → Step r a fs gs
-  closes : (f : Frame) (rest : List Frame) → r ≡ Closes (f .kind) → enough (f .kind) (f .branches) ≡ true → fs ≡ f ∷ rest → gs ≡ without (f .kind) rest → Step r a fs gs
+  closes : (f : Frame) (rest : List Frame) → r ≡ Closes (f .kind) → rightCount (f .kind) (f .branches) ≡ true → fs ≡ f ∷ rest → gs ≡ without (f .kind) rest → Step r a fs gs
 
 same-kind-is-equal : (k l : FrameKind) → sameKind k l ≡ true → k ≡ l
 same-kind-is-equal k l e = grind arith
@@ -105,8 +105,8 @@ step-by-role (Opens kind) a fs gs e =
     opens kind refl (cc)
 step-by-role (Closes kind) a [] gs e = absurd (grind arith)
 step-by-role (Closes kind) a (f ∷ fs) gs e =
-    let c = cond-is-some (sameKind kind (f .kind) && enough kind (f .branches)) (Some (without kind fs)) gs e in
-    let p = and-parts (sameKind kind (f .kind)) (enough kind (f .branches)) (c .0) in
+    let c = cond-is-some (sameKind kind (f .kind) && rightCount kind (f .branches)) (Some (without kind fs)) gs e in
+    let p = and-parts (sameKind kind (f .kind)) (rightCount kind (f .branches)) (c .0) in
     let q : kind ≡ f .kind = same-kind-is-equal kind (f .kind) (p .0) in
     let w : gs ≡ without kind fs = cc in
     closes f fs (ap Closes q) (rw q at (p .1)) refl (rw q at w)

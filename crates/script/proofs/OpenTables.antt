@@ -11,11 +11,11 @@ use mathlib.Core.Logic.{_⊎_, ⊎-elim}
 use Rattle.std.proofs.shelf.Tests.{ne-eqb, and-left, and-right, and-from}
 use Rattle.std.specs.declared.option.Option.the-variants.{Some, None}
 use Rattle.script.specs.declared.role.FrameKind.{FrameKind}
-use Rattle.script.specs.declared.role.FrameKind.the-variants.{Procedure, Branch, Branches}
+use Rattle.script.specs.declared.role.FrameKind.the-variants.{Procedure, Branch, Forked}
 use Rattle.script.specs.declared.frames.Frame.{Frame}
 use Rattle.script.specs.Roles.{sameKind}
-use Rattle.script.specs.Frames.{opened, enough, counted, without, closing}
-use Rattle.script.specs.Regions.{stretch, innermost, innermostAddress}
+use Rattle.script.specs.Frames.{opened, rightCount, counted, without, closing}
+use Rattle.script.specs.Regions.{regionFrom, innermost, innermostAddress}
 use Rattle.script.specs.Fronts.{front, blank}
 use Rattle.script.specs.Framing.{isEmpty, Countable}
 use Rattle.script.specs.Linking.{OpenedBefore}
@@ -44,12 +44,12 @@ counted-front xs n h l =
     ∙ ap counted (sym (front-top blank xs n h))
 
 -- a closer that does not fit, and one that does
-pub closing-misfit : (kind : FrameKind) (xs : List Frame) (n : ℕ) → 0 < n → (sameKind kind (last xs n .kind) ≡ false) ⊎ (enough kind (last xs n .branches) ≡ false) → closing kind (front blank xs n) ≡ None
+pub closing-misfit : (kind : FrameKind) (xs : List Frame) (n : ℕ) → 0 < n → (sameKind kind (last xs n .kind) ≡ false) ⊎ (rightCount kind (last xs n .branches) ≡ false) → closing kind (front blank xs n) ≡ None
 closing-misfit kind xs n h w =
     ap (closing kind) (front-top blank xs n h)
     ∙ ap (λ t. cond t (Some (without kind (front blank xs (n - 1)))) None) (⊎-elim (λ e. and-left _ _ e) (λ e. and-right (sameKind kind (last xs n .kind)) _ e) w)
 
-pub closing-fit : (kind : FrameKind) (xs : List Frame) (n : ℕ) (gs : List Frame) → 0 < n → sameKind kind (last xs n .kind) ≡ true → enough kind (last xs n .branches) ≡ true → gs ≡ without kind (front blank xs (n - 1))
+pub closing-fit : (kind : FrameKind) (xs : List Frame) (n : ℕ) (gs : List Frame) → 0 < n → sameKind kind (last xs n .kind) ≡ true → rightCount kind (last xs n .branches) ≡ true → gs ≡ without kind (front blank xs (n - 1))
     → (innermostAddress (front blank xs n) ≡ Some (last xs n .address)) × (closing kind (front blank xs n) ≡ Some gs)
 closing-fit kind xs n gs h k e g = (
   ap innermostAddress (front-top blank xs n h),
@@ -60,16 +60,16 @@ closing-fit kind xs n gs h k e g = (
 pub without-others : (kind : FrameKind) (fs : List Frame) → (kind ≡ Branch → ⊥) → fs ≡ without kind fs
 without-others (Procedure p) fs h = refl
 without-others Branch fs h = absurd (h refl)
-without-others (Branches a) fs h = refl
+without-others (Forked a) fs h = refl
 
 -- the innermost procedure or branch is the last frame, or it lies further out if that is a fork
-pub innermost-here : (xs : List Frame) (n : ℕ) → 0 < n → ((a : ℕ) → last xs n .kind ≡ Branches a → ⊥) → innermost (front blank xs n) ≡ last xs n .address
+pub innermost-here : (xs : List Frame) (n : ℕ) → 0 < n → ((a : ℕ) → last xs n .kind ≡ Forked a → ⊥) → innermost (front blank xs n) ≡ last xs n .address
 innermost-here xs n h k = ap innermost (front-top blank xs n h) ∙ here (last xs n .kind) k
   where
-    here : (kind : FrameKind) → ((a : ℕ) → kind ≡ Branches a → ⊥) → stretch kind (last xs n .address) (innermost (front blank xs (n - 1))) ≡ last xs n .address
+    here : (kind : FrameKind) → ((a : ℕ) → kind ≡ Forked a → ⊥) → regionFrom kind (last xs n .address) (innermost (front blank xs (n - 1))) ≡ last xs n .address
     here (Procedure p) k = refl
     here Branch k = refl
-    here (Branches a) k = absurd (k a refl)
+    here (Forked a) k = absurd (k a refl)
 
-pub innermost-further : (xs : List Frame) (n a : ℕ) → 0 < n → last xs n .kind ≡ Branches a → innermost (front blank xs n) ≡ innermost (front blank xs (n - 1))
-innermost-further xs n a h k = ap innermost (front-top blank xs n h) ∙ ap (λ kind. stretch kind (last xs n .address) (innermost (front blank xs (n - 1)))) k
+pub innermost-further : (xs : List Frame) (n a : ℕ) → 0 < n → last xs n .kind ≡ Forked a → innermost (front blank xs n) ≡ innermost (front blank xs (n - 1))
+innermost-further xs n a h k = ap innermost (front-top blank xs n h) ∙ ap (λ kind. regionFrom kind (last xs n .address) (innermost (front blank xs (n - 1)))) k

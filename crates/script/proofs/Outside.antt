@@ -11,12 +11,12 @@ use Rattle.std.proofs.shelf.Tests.{ne-eqb}
 use Rattle.std.specs.declared.option.Option.the-variants.{Some, None}
 use Rattle.instruction.specs.declared.instruction.Instruction.{Instruction}
 use Rattle.script.specs.declared.role.FrameKind.{FrameKind}
-use Rattle.script.specs.declared.role.FrameKind.the-variants.{Procedure, Branch, Branches}
+use Rattle.script.specs.declared.role.FrameKind.the-variants.{Procedure, Branch, Forked}
 use Rattle.script.specs.declared.role.Role.{Role}
 use Rattle.script.specs.declared.role.Role.the-variants.{Plain, JumpsIf, Jumps, Arrives, BeginsBlock, EndsBlock, Opens, Closes}
 use Rattle.script.specs.declared.frames.Frame.{Frame}
 use Rattle.script.specs.Roles.{sameKind}
-use Rattle.script.specs.Frames.{roleAt, opened, enough, without, openAfter, beside, fresh}
+use Rattle.script.specs.Frames.{roleAt, opened, rightCount, without, openAfter, beside, fresh}
 use Rattle.script.specs.Linking.{OpenedBefore}
 use Rattle.script.specs.Regions.{orNone, openBefore, closedBy, paired, partnerBefore, partner}
 
@@ -28,7 +28,7 @@ opened-without : (kind : FrameKind) (b : ℕ) (fs : List Frame) → OpenedBefore
 opened-without (Procedure p) b fs h = opened-on b fs h
 opened-without Branch b [] h = tt
 opened-without Branch b (f ∷ fs) h = (h .0, omega (arith, h .1), omega (arith, h .2), opened-on b fs (h .3))
-opened-without (Branches a) b fs h = opened-on b fs h
+opened-without (Forked a) b fs h = opened-on b fs h
 
 opened-if : (test : Bool) (b : ℕ) (fs : List Frame) → OpenedBefore b fs → OpenedBefore b (orNone (cond test (Some fs) None))
 opened-if true b fs h = h
@@ -44,7 +44,7 @@ opened-after (EndsBlock n) b fs p h = opened-on b fs h
 opened-after (Opens kind) b fs p h = opened-if (ltb (length fs) 16) (suc b) (opened kind b 0 ∷ fs) (p, omega arith, omega arith, opened-on b fs h)
 opened-after (Closes kind) b [] p h = tt
 opened-after (Closes kind) b (f ∷ fs) p h =
-    opened-if (sameKind kind (f .kind) && enough kind (f .branches)) (suc b) (without kind fs) (opened-without kind b fs (h .3))
+    opened-if (sameKind kind (f .kind) && rightCount kind (f .branches)) (suc b) (without kind fs) (opened-without kind b fs (h .3))
 
 opened-step : (test : Bool) (r : Role) (b : ℕ) (fs : List Frame) → 1 ≤ b → OpenedBefore b fs → OpenedBefore (suc b) (orNone (cond test (openAfter r b fs) None))
 opened-step true r b fs p h = opened-after r b fs p h

@@ -11,7 +11,7 @@ use Rattle.std.specs.declared.option.Option.the-variants.{Some, None}
 use Rattle.std.specs.declared.result.Result.the-variants.{Ok}
 use Rattle.instruction.specs.declared.instruction.Instruction.{Instruction}
 use Rattle.script.specs.declared.role.FrameKind.{FrameKind}
-use Rattle.script.specs.declared.role.FrameKind.the-variants.{Procedure, Branch, Branches}
+use Rattle.script.specs.declared.role.FrameKind.the-variants.{Procedure, Branch, Forked}
 use Rattle.script.specs.declared.role.Role.{Role}
 use Rattle.script.specs.declared.role.Role.the-variants.{Opens, Closes}
 use Rattle.script.specs.declared.frames.Frame.{Frame}
@@ -32,7 +32,7 @@ counted-holds x (f ∷ fs) = refl
 without-holds : (x : ℕ) (kind : FrameKind) (fs : List Frame) → Holds x (without kind fs) ≡ Holds x fs
 without-holds x (Procedure p) fs = refl
 without-holds x Branch fs = counted-holds x fs
-without-holds x (Branches n) fs = refl
+without-holds x (Forked n) fs = refl
 
 -- what a closer and its opener have to do with partners
 keeping-closes-none : (r : Role) (fs : List Frame) → keeps r ≡ true → closedBy r fs ≡ None

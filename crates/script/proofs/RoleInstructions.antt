@@ -6,7 +6,7 @@ use native.Mathlib.Omega.{arith}
 use Rattle.instruction.specs.declared.instruction.Instruction.{Instruction}
 use Rattle.instruction.specs.declared.instruction.Instruction.the-variants.{Jpc, Jmp, Label, ParBegin, ParEnd, Proc, PReturn, Block, End, Fork, Merge}
 use Rattle.script.specs.declared.role.FrameKind.{FrameKind}
-use Rattle.script.specs.declared.role.FrameKind.the-variants.{Procedure, Branch, Branches}
+use Rattle.script.specs.declared.role.FrameKind.the-variants.{Procedure, Branch, Forked}
 use Rattle.script.specs.declared.role.Role.{Role}
 use Rattle.script.specs.declared.role.Role.the-variants.{Plain, JumpsIf, Jumps, Arrives, BeginsBlock, EndsBlock, Opens, Closes}
 use Rattle.script.specs.Scripts.{instructionAt}
@@ -16,12 +16,12 @@ use Rattle.script.specs.Frames.{roleAt}
 abbrev pub opener : FrameKind → Instruction
 opener (Procedure p) = Proc p
 opener Branch = ParBegin
-opener (Branches n) = Fork n
+opener (Forked n) = Fork n
 
 abbrev pub closer : FrameKind → Instruction
 closer (Procedure p) = PReturn p
 closer Branch = ParEnd
-closer (Branches n) = Merge n
+closer (Forked n) = Merge n
 
 -- a plain role has several, so the instruction itself stands for it
 abbrev pub instructionFor : Instruction → Role → Instruction

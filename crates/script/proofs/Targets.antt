@@ -15,7 +15,7 @@ use Rattle.std.specs.declared.result.Result.{Result}
 use Rattle.std.specs.declared.result.Result.the-variants.{Ok}
 use Rattle.instruction.specs.declared.instruction.Instruction.{Instruction}
 use Rattle.instruction.specs.declared.instruction.Instruction.the-variants.{Jpc, Jmp, Block, End}
-use Rattle.script.specs.declared.role.FrameKind.the-variants.{Procedure, Branch, Branches}
+use Rattle.script.specs.declared.role.FrameKind.the-variants.{Procedure, Branch, Forked}
 use Rattle.script.specs.declared.role.Role.{Role}
 use Rattle.script.specs.declared.role.Role.the-variants.{Plain, JumpsIf, Jumps, Arrives, BeginsBlock, EndsBlock, Opens, Closes}
 use Rattle.script.specs.declared.refusal.ImageRefusal.{ImageRefusal}
@@ -62,7 +62,7 @@ opens-procedure (BeginsBlock b) e = absurd (grind arith)
 opens-procedure (EndsBlock b) e = absurd (grind arith)
 opens-procedure (Opens (Procedure p)) e = (p, refl)
 opens-procedure (Opens Branch) e = absurd (grind arith)
-opens-procedure (Opens (Branches n)) e = absurd (grind arith)
+opens-procedure (Opens (Forked n)) e = absurd (grind arith)
 opens-procedure (Closes kind) e = absurd (grind arith)
 
 label-for : (s : List Instruction) (a t : ℕ) → labelFor s a t ≡ true → LabelFor s a t

@@ -1,6 +1,6 @@
 -- What acceptance of a script gives: where control can come to, and how forks, branches and merges belong together.
 use mathlib.Core.Path.{_≡_}
-use mathlib.Core.Bool.{Bool, true, false, cond}
+use mathlib.Core.Bool.{Bool, true, cond, not, _||_}
 use mathlib.Core.List.{List, [], _∷_}
 use mathlib.Core.Logic.{_⊎_}
 use Prim.Native.Nat.{ℕ, zero, suc, _≤_, _<_}
@@ -8,50 +8,20 @@ use lib.ListN.{length, getD}
 use Rattle.std.specs.declared.option.Option.the-variants.{Some}
 use Rattle.instruction.specs.declared.instruction.Instruction.{Instruction}
 use Rattle.instruction.specs.declared.instruction.Instruction.the-variants.{Jpc, Jmp, Label, ParBegin, ParEnd, Proc, PReturn, Block, End, Fork, Merge}
-use Rattle.script.specs.declared.role.FrameKind.{FrameKind}
-use Rattle.script.specs.declared.role.FrameKind.the-variants.{Procedure, Branch, Branches}
 use Rattle.script.specs.declared.role.Role.{Role}
-use Rattle.script.specs.declared.role.Role.the-variants.{Plain, JumpsIf, Jumps, Arrives, BeginsBlock, EndsBlock, Opens, Closes}
 use Rattle.script.specs.Scripts.{instructionAt}
-use Rattle.script.specs.Roles.{byFraming, givenName, beginsBranch}
+use Rattle.script.specs.Roles.{givenName, leaves, beforeBranch, beginsBranch, afterBranch, opensProcedure}
 use Rattle.script.specs.Frames.{roleAt}
 use Rattle.script.specs.Regions.{region, partner}
 use Rattle.script.specs.Images.{Accepted}
 
--- whether control can go on from an instruction to the next one: not from jmp, p_return, par end and fork
-abbrev pub fallsFromOpener : FrameKind → Bool
-fallsFromOpener (Procedure p) = true
-fallsFromOpener Branch = true
-fallsFromOpener (Branches a) = false
-
-abbrev pub fallsFromCloser : FrameKind → Bool
-fallsFromCloser (Procedure p) = false
-fallsFromCloser Branch = false
-fallsFromCloser (Branches a) = true
-
+-- whether control can go on from an instruction to the next one: not from jmp, p_return, fork and par end
 abbrev pub falls : Role → Bool
-falls Plain = true
-falls (JumpsIf t) = true
-falls (Jumps t) = false
-falls Arrives = true
-falls (BeginsBlock b) = true
-falls (EndsBlock b) = true
-falls (Opens kind) = fallsFromOpener kind
-falls (Closes kind) = fallsFromCloser kind
+falls role = not (leaves role || beforeBranch role)
 
 -- whether control can come to an instruction from the one before it: not to proc, par begin and merge
-abbrev pub fallenIntoOpener : FrameKind → Bool
-fallenIntoOpener (Procedure p) = false
-fallenIntoOpener Branch = false
-fallenIntoOpener (Branches a) = true
-
-abbrev pub fallenIntoCloser : FrameKind → Bool
-fallenIntoCloser (Procedure p) = true
-fallenIntoCloser Branch = true
-fallenIntoCloser (Branches a) = false
-
 abbrev pub fallenInto : Role → Bool
-fallenInto role = byFraming true fallenIntoOpener fallenIntoCloser role
+fallenInto role = not (opensProcedure role || afterBranch role)
 
 -- at t there is a label of the region of the instruction at a
 pub record LabelFor (s : List Instruction) (a t : ℕ) : Type 0 where
@@ -75,6 +45,11 @@ branchesFrom s (suc most) a = cond (beginsBranch (roleAt s a)) ((a, partner s a)
 abbrev pub branchesOf : List Instruction → ℕ → List (ℕ × ℕ)
 branchesOf s f = branchesFrom s (length s) (suc f)
 
+-- the address directly behind branches that begin at an address
+abbrev pub behind : ℕ → List (ℕ × ℕ) → ℕ
+behind a [] = a
+behind a (b ∷ bs) = behind (suc (b .1)) bs
+
 -- a branch of the fork at f, from its par begin to its par end
 pub record BranchOf (s : List Instruction) (f begin end : ℕ) : Type 0 where
   pub order : (f < begin) × (begin < end) × (end < partner s f)
@@ -91,7 +66,14 @@ pub record ForkAt (s : List Instruction) (f n : ℕ) : Type 0 where
   pub back : partner s (partner s f) ≡ f
   pub sameRegion : region s (partner s f) ≡ region s f
   pub count : (2 ≤ length (branchesOf s f)) × (length (branchesOf s f) ≤ 7)
+  pub directly : behind (suc f) (branchesOf s f) ≡ partner s f
   pub each : (k : ℕ) → k < length (branchesOf s f) → BranchOf s f (getD (branchesOf s f) k (0, 0) .0) (getD (branchesOf s f) k (0, 0) .1)
+
+-- what begins at a is a region of its own, and ends at the closer that belongs to it
+pub record StretchAt (s : List Instruction) (a : ℕ) (closer : Instruction) : Type 0 where
+  pub ownRegion : region s a ≡ a
+  pub closes : instructionAt s (partner s a) ≡ closer
+  pub back : partner s (partner s a) ≡ a
 
 pub record Flow (s : List Instruction) : Type 0 where
   -- where a run begins
@@ -107,7 +89,8 @@ pub record Flow (s : List Instruction) : Type 0 where
   pub names : (a b n : ℕ) → givenName (roleAt s a) ≡ Some n → givenName (roleAt s b) ≡ Some n → a ≡ b
   pub end : (a n : ℕ) → instructionAt s a ≡ End n → (b : ℕ) × (instructionAt s b ≡ Block n)
   -- a procedure and a branch are regions of their own, up to their end
-  pub proc : (a p : ℕ) → instructionAt s a ≡ Proc p → region s a ≡ a
+  pub proc : (a p : ℕ) → instructionAt s a ≡ Proc p → StretchAt s a (PReturn p)
+  pub branch : (a : ℕ) → instructionAt s a ≡ ParBegin → StretchAt s a ParEnd
   pub procEnd : (a p : ℕ) → instructionAt s a ≡ PReturn p → instructionAt s (region s a) ≡ Proc p
   pub branchEnd : (a : ℕ) → instructionAt s a ≡ ParEnd → instructionAt s (region s a) ≡ ParBegin
 

@@ -10,13 +10,13 @@ use Rattle.std.specs.declared.result.Result.{Result}
 use Rattle.std.specs.declared.result.Result.the-variants.{Ok, Err}
 use Rattle.instruction.specs.declared.instruction.Instruction.{Instruction}
 use Rattle.script.specs.declared.role.FrameKind.{FrameKind}
-use Rattle.script.specs.declared.role.FrameKind.the-variants.{Procedure, Branch, Branches}
+use Rattle.script.specs.declared.role.FrameKind.the-variants.{Procedure, Branch, Forked}
 use Rattle.script.specs.declared.role.Role.{Role}
 use Rattle.script.specs.declared.frames.Frame.{Frame}
 use Rattle.script.specs.declared.refusal.ImageRefusal.{ImageRefusal}
 use Rattle.script.specs.declared.refusal.ImageRefusal.the-variants.{BrokenFrame}
 use Rattle.script.specs.Scripts.{instructionAt, someBefore}
-use Rattle.script.specs.Roles.{roleOf, byFraming, sameKind, givenName, isNamed, leaves, splits, beginsBranch, joins}
+use Rattle.script.specs.Roles.{roleOf, byFraming, sameKind, givenName, isNamed, leaves, beforeBranch, beginsBranch, afterBranch}
 
 -- the role of the instruction at an address
 abbrev pub roleAt : List Instruction → ℕ → Role
@@ -27,14 +27,14 @@ roleAt s a = roleOf (instructionAt s a)
 -- a proc stands behind a jmp or p_return, a par begin behind a fork or par end; a fork stands before a par begin
 abbrev pub openerBeside : FrameKind → Role → Role → Bool
 openerBeside (Procedure p) before after = leaves before
-openerBeside Branch before after = splits before
-openerBeside (Branches a) before after = beginsBranch after
+openerBeside Branch before after = beforeBranch before
+openerBeside (Forked a) before after = beginsBranch after
 
 -- a par end stands before a par begin or a merge
 abbrev pub closerBeside : FrameKind → Role → Bool
 closerBeside (Procedure p) after = true
-closerBeside Branch after = joins after
-closerBeside (Branches a) after = true
+closerBeside Branch after = afterBranch after
+closerBeside (Forked a) after = true
 
 abbrev pub besideBy : Role → Role → Role → Bool
 besideBy role before after = byFraming true (λ kind. openerBeside kind before after) (λ kind. closerBeside kind after) role
@@ -65,10 +65,10 @@ abbrev pub opening : FrameKind → ℕ → List Frame → Option (List Frame)
 opening kind a fs = cond (ltb (length fs) 16) (Some (opened kind a 0 ∷ fs)) None
 
 -- a fork has 2 to 7 branches
-abbrev pub enough : FrameKind → ℕ → Bool
-enough (Procedure p) branches = true
-enough Branch branches = true
-enough (Branches a) branches = leb 2 branches && leb branches 7
+abbrev pub rightCount : FrameKind → ℕ → Bool
+rightCount (Procedure p) branches = true
+rightCount Branch branches = true
+rightCount (Forked a) branches = leb 2 branches && leb branches 7
 
 -- an ended branch is counted by the frame around it, its fork
 abbrev pub counted : List Frame → List Frame
@@ -78,12 +78,12 @@ counted (f ∷ fs) = opened (f .kind) (f .address) (suc (f .branches)) ∷ fs
 abbrev pub without : FrameKind → List Frame → List Frame
 without (Procedure p) fs = fs
 without Branch fs = counted fs
-without (Branches a) fs = fs
+without (Forked a) fs = fs
 
 -- a closer closes the innermost frame, name for name
 abbrev pub closing : FrameKind → List Frame → Option (List Frame)
 closing kind [] = None
-closing kind (f ∷ fs) = cond (sameKind kind (f .kind) && enough kind (f .branches)) (Some (without kind fs)) None
+closing kind (f ∷ fs) = cond (sameKind kind (f .kind) && rightCount kind (f .branches)) (Some (without kind fs)) None
 
 abbrev pub openAfter : Role → ℕ → List Frame → Option (List Frame)
 openAfter role a fs = byFraming (Some fs) (λ kind. opening kind a fs) (λ kind. closing kind fs) role

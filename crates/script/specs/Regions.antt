@@ -8,7 +8,7 @@ use Rattle.std.specs.declared.option.Option.{Option}
 use Rattle.std.specs.declared.option.Option.the-variants.{Some, None}
 use Rattle.instruction.specs.declared.instruction.Instruction.{Instruction}
 use Rattle.script.specs.declared.role.FrameKind.{FrameKind}
-use Rattle.script.specs.declared.role.FrameKind.the-variants.{Procedure, Branch, Branches}
+use Rattle.script.specs.declared.role.FrameKind.the-variants.{Procedure, Branch, Forked}
 use Rattle.script.specs.declared.role.Role.{Role}
 use Rattle.script.specs.declared.frames.Frame.{Frame}
 use Rattle.script.specs.Roles.{byFraming}
@@ -28,16 +28,16 @@ abbrev pub around : Role → ℕ → List Frame → List Frame
 around role a fs = byFraming fs (λ kind. opened kind a 0 ∷ fs) (λ kind. fs) role
 
 -- the address of the innermost procedure or branch; 0 is the whole script
-abbrev pub stretch : FrameKind → ℕ → ℕ → ℕ
-stretch (Procedure p) a outer = a
-stretch Branch a outer = a
-stretch (Branches b) a outer = outer
+abbrev pub regionFrom : FrameKind → ℕ → ℕ → ℕ
+regionFrom (Procedure p) a outer = a
+regionFrom Branch a outer = a
+regionFrom (Forked b) a outer = outer
 
 abbrev pub innermost : List Frame → ℕ
 innermost [] = 0
-innermost (f ∷ fs) = stretch (f .kind) (f .address) (innermost fs)
+innermost (f ∷ fs) = regionFrom (f .kind) (f .address) (innermost fs)
 
--- the region of an instruction: the innermost stretch from proc to p_return, or from par begin to par end, that holds it, ends included
+-- the region of an instruction: the innermost regionFrom from proc to p_return, or from par begin to par end, that holds it, ends included
 unfoldable pub region : List Instruction → ℕ → ℕ
 region s a = innermost (around (roleAt s a) a (openBefore s a))
 

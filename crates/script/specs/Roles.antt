@@ -7,7 +7,7 @@ use Rattle.std.specs.declared.option.Option.the-variants.{Some, None}
 use Rattle.instruction.specs.declared.instruction.Instruction.{Instruction}
 use Rattle.instruction.specs.declared.instruction.Instruction.the-variants.{Ipush, Load, Store, Jpc, Jmp, Op, Label, ParBegin, ParEnd, Alloc, Free, Proc, PReturn, Block, End, Fork, Merge, Nop}
 use Rattle.script.specs.declared.role.FrameKind.{FrameKind}
-use Rattle.script.specs.declared.role.FrameKind.the-variants.{Procedure, Branch, Branches}
+use Rattle.script.specs.declared.role.FrameKind.the-variants.{Procedure, Branch, Forked}
 use Rattle.script.specs.declared.role.Role.{Role}
 use Rattle.script.specs.declared.role.Role.the-variants.{Plain, JumpsIf, Jumps, Arrives, BeginsBlock, EndsBlock, Opens, Closes}
 
@@ -27,8 +27,8 @@ roleOf (Proc p) = Opens (Procedure p)
 roleOf (PReturn p) = Closes (Procedure p)
 roleOf (Block b) = BeginsBlock b
 roleOf (End b) = EndsBlock b
-roleOf (Fork a) = Opens (Branches a)
-roleOf (Merge a) = Closes (Branches a)
+roleOf (Fork a) = Opens (Forked a)
+roleOf (Merge a) = Closes (Forked a)
 roleOf Nop = Plain
 
 -- what is said of an opener, of a closer, and of every other instruction
@@ -46,19 +46,19 @@ byFraming other opener closer (Closes kind) = closer kind
 abbrev pub sameKind : FrameKind → FrameKind → Bool
 sameKind (Procedure p) (Procedure q) = eqb p q
 sameKind (Procedure p) Branch = false
-sameKind (Procedure p) (Branches b) = false
+sameKind (Procedure p) (Forked b) = false
 sameKind Branch (Procedure q) = false
 sameKind Branch Branch = true
-sameKind Branch (Branches b) = false
-sameKind (Branches a) (Procedure q) = false
-sameKind (Branches a) Branch = false
-sameKind (Branches a) (Branches b) = eqb a b
+sameKind Branch (Forked b) = false
+sameKind (Forked a) (Procedure q) = false
+sameKind (Forked a) Branch = false
+sameKind (Forked a) (Forked b) = eqb a b
 
 -- the name that an opener gives
 abbrev pub frameName : FrameKind → Option ℕ
 frameName (Procedure p) = Some p
 frameName Branch = None
-frameName (Branches a) = Some a
+frameName (Forked a) = Some a
 
 -- the name that a block, proc or fork gives
 abbrev pub givenName : Role → Option ℕ
@@ -90,17 +90,17 @@ isNamed b (Some c) = eqb c b
 abbrev pub isProcedure : FrameKind → Bool
 isProcedure (Procedure p) = true
 isProcedure Branch = false
-isProcedure (Branches a) = false
+isProcedure (Forked a) = false
 
 abbrev pub isBranch : FrameKind → Bool
 isBranch (Procedure p) = false
 isBranch Branch = true
-isBranch (Branches a) = false
+isBranch (Forked a) = false
 
-abbrev pub isBranches : FrameKind → Bool
-isBranches (Procedure p) = false
-isBranches Branch = false
-isBranches (Branches a) = true
+abbrev pub isForked : FrameKind → Bool
+isForked (Procedure p) = false
+isForked Branch = false
+isForked (Forked a) = true
 
 -- jmp or p_return: what follows is not come to from here
 abbrev pub leaves : Role → Bool
@@ -114,16 +114,16 @@ leaves (Opens kind) = false
 leaves (Closes kind) = isProcedure kind
 
 -- fork or par end
-abbrev pub splits : Role → Bool
-splits role = byFraming false isBranches isBranch role
+abbrev pub beforeBranch : Role → Bool
+beforeBranch role = byFraming false isForked isBranch role
 
 -- par begin
 abbrev pub beginsBranch : Role → Bool
 beginsBranch role = byFraming false isBranch (λ kind. false) role
 
 -- par begin or merge
-abbrev pub joins : Role → Bool
-joins role = byFraming false isBranch isBranches role
+abbrev pub afterBranch : Role → Bool
+afterBranch role = byFraming false isBranch isForked role
 
 -- label
 abbrev pub arrives : Role → Bool

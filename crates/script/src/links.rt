@@ -6,7 +6,7 @@ use crate::instructions::MOST_INSTRUCTIONS;
 
 pub mod judging;
 
-// By address, from address 1 on; 0 where there is none.
+// By address, from address 1 on: 0 where there is no partner, and for the whole script as a region.
 #[derive(Drop)]
 pub struct Links {
     frames: OpenFrames,

@@ -10,7 +10,7 @@ use crate::role::Role;
 
 // A name to look for.
 #[derive(Clone, Copy)]
-pub enum Naming {
+pub(crate) enum Naming {
     Any(u8), // given by a block, proc or fork
     Block(u8), // given by a block
 }
@@ -39,7 +39,7 @@ fn is_given_before(script: &Instructions, naming: Naming, end: usize) -> bool
 }
 
 // Whether the instruction at an address gives no name that was given before.
-pub fn is_fresh(script: &Instructions, address: usize) -> bool
+pub(crate) fn is_fresh(script: &Instructions, address: usize) -> bool
     ensures { λ r. ⌜ r ≡ fresh (listOf (now (script .entry))) address ⌝ }
 {
     match script.role(address).given_name() {
@@ -48,7 +48,7 @@ pub fn is_fresh(script: &Instructions, address: usize) -> bool
     }
 }
 
-pub fn has_block(script: &Instructions, name: u8) -> bool
+pub(crate) fn has_block(script: &Instructions, name: u8) -> bool
     ensures { λ r. ⌜ r ≡ hasBlock (listOf (now (script .entry))) name ⌝ }
 {
     is_given_before(script, Naming::Block(name), script.count() + 1)

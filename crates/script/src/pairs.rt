@@ -41,7 +41,7 @@ fn fill(
 }
 
 // Reads all codes and operands of an image into the table, and answers how many pairs there are.
-pub fn read_pairs(table: &mut [(u32, u32)], bytes: &[u8]) -> Result<usize, ImageRefusal>
+pub(crate) fn read_pairs(table: &mut [(u32, u32)], bytes: &[u8]) -> Result<usize, ImageRefusal>
     requires { ⌜ 1024 ≤ length (now table) ⌝ }
     ensures { λ r. ⌜ PairsRead (now (bytes .entry)) r (now (table .exit)) ⌝ }
 {
@@ -58,7 +58,7 @@ pub fn read_pairs(table: &mut [(u32, u32)], bytes: &[u8]) -> Result<usize, Image
 }
 
 // The instructions of all pairs of an image.
-pub fn decode(pairs: &[(u32, u32)]) -> Result<Instructions, ImageRefusal>
+pub(crate) fn decode(pairs: &[(u32, u32)]) -> Result<Instructions, ImageRefusal>
     requires { ⌜ length (now pairs) ≤ 1024 ⌝ }
     ensures { λ r. ⌜ held r ≡ decoded (now (pairs .entry)) ⌝ }
 {

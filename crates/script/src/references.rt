@@ -2,7 +2,7 @@
 ghost use mathlib.Core.Path.{_≡_};
 ghost use Prim.Native.Nat.{_≤_};
 ghost use lib.ListN.{length};
-ghost use Rattle.script.specs.References.{labelFor, wrongReference, referencesJudged};
+ghost use Rattle.script.specs.References.{labelFor, callFrom, unless, wrongReference, referencesJudged};
 ghost use Rattle.script.specs.Held.{listOf, HasRegions};
 use crate::instructions::Instructions;
 use crate::links::Links;
@@ -23,6 +23,23 @@ fn is_label_for(script: &Instructions, links: &Links, address: usize, target: us
     script.role(target).arrives() && links.regions[target - 1] == links.regions[address - 1]
 }
 
+// Whether a proc stands at the target, and a label for its return directly behind the address.
+fn is_call_from(script: &Instructions, links: &Links, address: usize, target: usize) -> bool
+    requires some { ⌜ 1 ≤ address ⌝ }
+    requires within { ⌜ address ≤ length (listOf (now script)) ⌝ }
+    requires few { ⌜ address ≤ 1024 ⌝ }
+    requires regions { ⌜ HasRegions (listOf (now script)) (now links .regions) ⌝ }
+    ensures { λ r. ⌜ r ≡ callFrom (listOf (now (script .entry))) address target ⌝ }
+{
+    script.role(target).opens_procedure() && is_label_for(script, links, address, address + 1)
+}
+
+fn unless(fine: bool, refusal: ImageRefusal) -> Option<ImageRefusal>
+    ensures { λ r. ⌜ r ≡ unless fine refusal ⌝ }
+{
+    if fine { None } else { Some(refusal) }
+}
+
 // What is wrong with what the instruction at an address refers to, if something is.
 fn wrong_reference(script: &Instructions, links: &Links, address: usize) -> Option<ImageRefusal>
     requires some { ⌜ 1 ≤ address ⌝ }
@@ -32,34 +49,25 @@ fn wrong_reference(script: &Instructions, links: &Links, address: usize) -> Opti
     ensures { λ r. ⌜ r ≡ wrongReference (listOf (now (script .entry))) address ⌝ }
 {
     match script.role(address) {
-        Role::JumpsIf(target) => {
-            if is_label_for(script, links, address, usize::from(target)) {
-                return None;
-            }
-            Some(ImageRefusal::WrongTarget(address))
-        }
-        Role::Jumps(target) => {
-            let target = usize::from(target);
-            if is_label_for(script, links, address, target)
-                || script.role(target).opens_procedure()
-                    && is_label_for(script, links, address, address + 1)
-            {
-                return None;
-            }
-            Some(ImageRefusal::WrongTarget(address))
-        }
-        Role::EndsBlock(name) => {
-            if has_block(script, name) {
-                return None;
-            }
-            Some(ImageRefusal::EndWithoutBlock(address))
-        }
+        Role::JumpsIf(target) => unless(
+            is_label_for(script, links, address, usize::from(target)),
+            ImageRefusal::WrongTarget(address),
+        ),
+        Role::Jumps(target) => unless(
+            is_label_for(script, links, address, usize::from(target))
+                || is_call_from(script, links, address, usize::from(target)),
+            ImageRefusal::WrongTarget(address),
+        ),
+        Role::EndsBlock(name) => unless(
+            has_block(script, name),
+            ImageRefusal::EndWithoutBlock(address),
+        ),
         _ => None,
     }
 }
 
 // Judges the ends and jumps of a script whose regions are known.
-pub fn check_references(script: &Instructions, links: &Links) -> Result<(), ImageRefusal>
+pub(crate) fn check_references(script: &Instructions, links: &Links) -> Result<(), ImageRefusal>
     requires { ⌜ HasRegions (listOf (now script)) (now links .regions) ⌝ }
     ensures { λ r. ⌜ r ≡ referencesJudged (listOf (now (script .entry))) ⌝ }
 {

@@ -1,19 +1,19 @@
 // What an instruction does to the form of a script. All rules of form go by these roles.
 ghost use mathlib.Core.Path.{_≡_};
-ghost use Rattle.script.specs.Roles.{roleOf, sameKind, frameName, givenName, blockName, leaves, splits, beginsBranch, joins, arrives, opensProcedure};
+ghost use Rattle.script.specs.Roles.{roleOf, sameKind, frameName, givenName, blockName, leaves, beforeBranch, beginsBranch, afterBranch, arrives, opensProcedure};
 ghost use Rattle.script.specs.Frames.{besideBy};
 use instruction::instruction::Instruction;
 
-// A stretch of instructions from an opener to its closer.
+// A regionFrom of instructions from an opener to its closer.
 #[derive(Clone, Copy)]
-pub enum FrameKind {
+pub(crate) enum FrameKind {
     Procedure(u8), // from proc to p_return
     Branch, // from par begin to par end
-    Branches(u8), // from fork to merge
+    Forked(u8), // from fork to merge
 }
 
 #[derive(Clone, Copy)]
-pub enum Role {
+pub(crate) enum Role {
     Plain,
     JumpsIf(u16),
     Jumps(u16),
@@ -24,7 +24,7 @@ pub enum Role {
     Closes(FrameKind),
 }
 
-pub fn role_of(instruction: Instruction) -> Role
+pub(crate) fn role_of(instruction: Instruction) -> Role
     ensures { λ r. ⌜ r ≡ roleOf instruction ⌝ }
 {
     match instruction {
@@ -37,45 +37,45 @@ pub fn role_of(instruction: Instruction) -> Role
         Instruction::PReturn(name) => Role::Closes(FrameKind::Procedure(name)),
         Instruction::ParBegin => Role::Opens(FrameKind::Branch),
         Instruction::ParEnd => Role::Closes(FrameKind::Branch),
-        Instruction::Fork(name) => Role::Opens(FrameKind::Branches(name)),
-        Instruction::Merge(name) => Role::Closes(FrameKind::Branches(name)),
+        Instruction::Fork(name) => Role::Opens(FrameKind::Forked(name)),
+        Instruction::Merge(name) => Role::Closes(FrameKind::Forked(name)),
         _ => Role::Plain,
     }
 }
 
 impl FrameKind {
     // Name for name.
-    pub fn is(self, other: FrameKind) -> bool
+    pub(crate) fn is(self, other: FrameKind) -> bool
         ensures { λ r. ⌜ r ≡ sameKind self other ⌝ }
     {
         match (self, other) {
             (FrameKind::Procedure(a), FrameKind::Procedure(b)) => a == b,
             (FrameKind::Procedure(_), FrameKind::Branch) => false,
-            (FrameKind::Procedure(_), FrameKind::Branches(_)) => false,
+            (FrameKind::Procedure(_), FrameKind::Forked(_)) => false,
             (FrameKind::Branch, FrameKind::Procedure(_)) => false,
             (FrameKind::Branch, FrameKind::Branch) => true,
-            (FrameKind::Branch, FrameKind::Branches(_)) => false,
-            (FrameKind::Branches(_), FrameKind::Procedure(_)) => false,
-            (FrameKind::Branches(_), FrameKind::Branch) => false,
-            (FrameKind::Branches(a), FrameKind::Branches(b)) => a == b,
+            (FrameKind::Branch, FrameKind::Forked(_)) => false,
+            (FrameKind::Forked(_), FrameKind::Procedure(_)) => false,
+            (FrameKind::Forked(_), FrameKind::Branch) => false,
+            (FrameKind::Forked(a), FrameKind::Forked(b)) => a == b,
         }
     }
 
     // The name that its opener gives, if it gives one.
-    pub fn name(self) -> Option<u8>
+    pub(crate) fn name(self) -> Option<u8>
         ensures { λ r. ⌜ r ≡ frameName self ⌝ }
     {
         match self {
             FrameKind::Procedure(name) => Some(name),
             FrameKind::Branch => None,
-            FrameKind::Branches(name) => Some(name),
+            FrameKind::Forked(name) => Some(name),
         }
     }
 }
 
 impl Role {
     // The name that a block, proc or fork gives.
-    pub fn given_name(self) -> Option<u8>
+    pub(crate) fn given_name(self) -> Option<u8>
         ensures { λ r. ⌜ r ≡ givenName self ⌝ }
     {
         match self {
@@ -86,7 +86,7 @@ impl Role {
     }
 
     // The name of a block.
-    pub fn block_name(self) -> Option<u8>
+    pub(crate) fn block_name(self) -> Option<u8>
         ensures { λ r. ⌜ r ≡ blockName self ⌝ }
     {
         match self {
@@ -103,12 +103,12 @@ impl Role {
     }
 
     // A fork or par end.
-    fn splits(self) -> bool
-        ensures { λ r. ⌜ r ≡ splits self ⌝ }
+    fn is_before_branch(self) -> bool
+        ensures { λ r. ⌜ r ≡ beforeBranch self ⌝ }
     {
         matches!(
             self,
-            Role::Opens(FrameKind::Branches(_)) | Role::Closes(FrameKind::Branch)
+            Role::Opens(FrameKind::Forked(_)) | Role::Closes(FrameKind::Branch)
         )
     }
 
@@ -120,38 +120,38 @@ impl Role {
     }
 
     // A par begin or merge.
-    fn joins(self) -> bool
-        ensures { λ r. ⌜ r ≡ joins self ⌝ }
+    fn is_after_branch(self) -> bool
+        ensures { λ r. ⌜ r ≡ afterBranch self ⌝ }
     {
         matches!(
             self,
-            Role::Opens(FrameKind::Branch) | Role::Closes(FrameKind::Branches(_))
+            Role::Opens(FrameKind::Branch) | Role::Closes(FrameKind::Forked(_))
         )
     }
 
     // A label.
-    pub fn arrives(self) -> bool
+    pub(crate) fn arrives(self) -> bool
         ensures { λ r. ⌜ r ≡ arrives self ⌝ }
     {
         matches!(self, Role::Arrives)
     }
 
     // A proc.
-    pub fn opens_procedure(self) -> bool
+    pub(crate) fn opens_procedure(self) -> bool
         ensures { λ r. ⌜ r ≡ opensProcedure self ⌝ }
     {
         matches!(self, Role::Opens(FrameKind::Procedure(_)))
     }
 
     // Whether it can stand between two others.
-    pub fn fits_between(self, before: Role, after: Role) -> bool
+    pub(crate) fn fits_between(self, before: Role, after: Role) -> bool
         ensures { λ r. ⌜ r ≡ besideBy self before after ⌝ }
     {
         match self {
             Role::Opens(FrameKind::Procedure(_)) => before.leaves(),
-            Role::Opens(FrameKind::Branch) => before.splits(),
-            Role::Opens(FrameKind::Branches(_)) => after.begins_branch(),
-            Role::Closes(FrameKind::Branch) => after.joins(),
+            Role::Opens(FrameKind::Branch) => before.is_before_branch(),
+            Role::Opens(FrameKind::Forked(_)) => after.begins_branch(),
+            Role::Closes(FrameKind::Branch) => after.is_after_branch(),
             _ => true,
         }
     }

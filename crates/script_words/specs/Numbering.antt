@@ -13,10 +13,10 @@ numberedFrom line position [] = []
 numberedFrom line position (x ∷ xs) = line position x ∷ numberedFrom line (suc position) xs
 
 abbrev pub linesOf : List Instruction → List Line
-linesOf s = numberedFrom (λ position i. record { position = position; instruction = i }) 1 s
+linesOf s = numberedFrom (λ address i. record { address = address; instruction = i }) 1 s
 
 abbrev pub mirrorLinesOf : List MirrorInstruction → List MirrorLine
-mirrorLinesOf s = numberedFrom (λ position i. record { position = position; instruction = i }) 1 s
+mirrorLinesOf s = numberedFrom (λ place i. record { place = place; instruction = i }) 1 s
 
 -- the instructions of the mirrored script: the mirror of the last one is the first
 abbrev pub mirrorsOf : List Instruction → List MirrorInstruction

@@ -17,7 +17,7 @@ use std::fmt;
 // An instruction and its address.
 #[derive(Clone, Copy)]
 pub struct Line {
-    pub position: usize,
+    pub address: usize,
     pub instruction: Instruction,
 }
 
@@ -27,10 +27,10 @@ pub fn lines(heap: Global, script: &Script) -> Result<Vec<Line>, AllocError>
 {
     let mut lines = Vec::new(heap);
     for before in 0..script.count() {
-        let position = before + 1;
-        let instruction = script.at(position);
+        let address = before + 1;
+        let instruction = script.at(address);
         lines.push(Line {
-            position,
+            address,
             instruction,
         })?;
     }
@@ -38,13 +38,13 @@ pub fn lines(heap: Global, script: &Script) -> Result<Vec<Line>, AllocError>
 }
 
 pub impl fmt::Display for Line as LineDisplay {
-    ghost shown = { λ line. Some (lineText (line .position) (instructionName (line .instruction)) (operandOf (line .instruction))) };
+    ghost shown = { λ line. Some (lineText (line .address) (instructionName (line .instruction)) (operandOf (line .instruction))) };
 
     fn fmt<W: fmt::Write>(&self, f: &mut fmt::Formatter<W>) -> fmt::Result {
-        let position = self.position;
+        let address = self.address;
         let name = instruction_name(self.instruction);
         let operand = operand_of(self.instruction);
-        write!(f, "{position}  {name}{operand}")
+        write!(f, "{address}  {name}{operand}")
     }
 }
 

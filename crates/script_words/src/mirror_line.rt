@@ -17,7 +17,7 @@ use std::fmt;
 // A mirrored instruction and its mirror place.
 #[derive(Clone, Copy)]
 pub struct MirrorLine {
-    pub position: usize,
+    pub place: usize,
     pub instruction: MirrorInstruction,
 }
 
@@ -28,24 +28,21 @@ pub fn mirror_lines(heap: Global, script: &Script) -> Result<Vec<MirrorLine>, Al
     let mut lines = Vec::new(heap);
     let count = script.count();
     for before in 0..count {
-        let position = before + 1;
+        let place = before + 1;
         let instruction = script.at(count - before).mirror();
-        lines.push(MirrorLine {
-            position,
-            instruction,
-        })?;
+        lines.push(MirrorLine { place, instruction })?;
     }
     Ok(lines)
 }
 
 pub impl fmt::Display for MirrorLine as MirrorLineDisplay {
-    ghost shown = { λ line. Some (lineText (line .position) (mirrorName (line .instruction)) (mirrorOperandOf (line .instruction))) };
+    ghost shown = { λ line. Some (lineText (line .place) (mirrorName (line .instruction)) (mirrorOperandOf (line .instruction))) };
 
     fn fmt<W: fmt::Write>(&self, f: &mut fmt::Formatter<W>) -> fmt::Result {
-        let position = self.position;
+        let place = self.place;
         let name = mirror_name(self.instruction);
         let operand = mirror_operand_of(self.instruction);
-        write!(f, "{position}  {name}{operand}")
+        write!(f, "{place}  {name}{operand}")
     }
 }
 

@@ -22,7 +22,7 @@ fn an_instruction_tells_its_operand(rt: LibcRuntime) -> Result<(), Fail> {
     ];
     for (instruction, text) in table {
         let line = Line {
-            position: 12,
+            address: 12,
             instruction,
         };
         check_eq(line.to_string(rt.alloc())?.as_str(), text)?;
@@ -33,7 +33,7 @@ fn an_instruction_tells_its_operand(rt: LibcRuntime) -> Result<(), Fail> {
 #[test]
 fn a_mirrored_instruction_tells_its_operand(rt: LibcRuntime) -> Result<(), Fail> {
     let line = MirrorLine {
-        position: 2,
+        place: 2,
         instruction: MirrorInstruction::RAlloc(40),
     };
     check_eq(line.to_string(rt.alloc())?.as_str(), "2  r_alloc 40")

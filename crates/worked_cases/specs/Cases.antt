@@ -4,6 +4,9 @@ use mathlib.Core.List.{List, [], _∷_}
 use Prim.Native.Nat.{ℕ}
 use lib.Dec.{lit<, lit≤}
 use lib.IntN.{pos, negsuc}
+use Rattle.std.specs.declared.option.Option.{Option}
+use Rattle.std.specs.declared.option.Option.the-variants.{Some, None}
+use Rattle.std.specs.declared.result.Result.{Result}
 use Rattle.std.specs.declared.result.Result.the-variants.{Ok, Err}
 use Rattle.varint.specs.declared.number.Fault.the-variants.{Malformed, Ended}
 use Rattle.varint.specs.Writings.{writing}
@@ -16,7 +19,7 @@ use Rattle.entry_codec.specs.Writing.{entryBytes}
 use Rattle.instruction.specs.declared.instruction.Instruction.{Instruction}
 use Rattle.instruction.specs.declared.instruction.Instruction.the-variants.{Ipush, Load, Store, Op, ParBegin, ParEnd, Alloc, Free, Block, End, Fork, Merge}
 use Rattle.instruction.specs.declared.instruction.Operator.the-variants.{Add}
-use Rattle.script.specs.declared.refusal.ImageRefusal.the-variants.{NoNumber}
+use Rattle.script.specs.declared.refusal.ImageRefusal.{ImageRefusal}
 use Rattle.script.specs.Refusals.{told}
 use Rattle.script.specs.Images.{image, readImage}
 use Rattle.script.specs.Flow.{branchesOf}
@@ -37,6 +40,11 @@ adderImage = 8 ∷ 13 ∷ 1 ∷ 9 ∷ 40 ∷ 2 ∷ 0 ∷ 1 ∷ 2 ∷ 6 ∷ 0 ∷
 abbrev pub racers : List Instruction
 racers = Fork 1 ∷ ParBegin ∷ Ipush (pos 5) ∷ Store 0 ∷ ParEnd ∷ ParBegin ∷ Ipush (pos 6) ∷ Store 0 ∷ ParEnd ∷ Merge 1 ∷ []
 
+-- what a refused caller is told, if it is refused
+abbrev pub toldOf : Result (List Instruction) ImageRefusal → Option (ℕ × ℕ)
+toldOf (Ok s) = None
+toldOf (Err refusal) = Some (told refusal)
+
 pub record WorkedCases : Type 0 where
   -- numbers and entries
   pub number : writing 300 ≡ 2 ∷ 172 ∷ []
@@ -51,7 +59,6 @@ pub record WorkedCases : Type 0 where
   pub scriptRead : readImage adderImage ≡ Ok adder
   pub scriptWritten : image adder ≡ adderImage
   pub scriptMirrored : mirrorImage adder ≡ 8 ∷ 9 ∷ 1 ∷ 5 ∷ 40 ∷ 2 ∷ 0 ∷ 15 ∷ 0 ∷ 15 ∷ 0 ∷ 15 ∷ 0 ∷ 6 ∷ 40 ∷ 10 ∷ 1 ∷ []
-  pub paddedImage : readImage (0 ∷ 172 ∷ []) ≡ Err (NoNumber 0)
-  pub paddedImageTold : told (NoNumber 0) ≡ (1, 0)
+  pub paddedImage : toldOf (readImage (0 ∷ 172 ∷ [])) ≡ Some (1, 0)
   pub forkRead : readImage (image racers) ≡ Ok racers
   pub forkBranches : branchesOf racers 1 ≡ (2, 5) ∷ (6, 9) ∷ []

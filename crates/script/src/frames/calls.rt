@@ -3,7 +3,7 @@ ghost use mathlib.Core.Bool.{cond};
 ghost use mathlib.Core.List.{[], _∷_};
 ghost use lib.Dec.{ltb};
 ghost use lib.ListN.{length};
-ghost use Rattle.script.specs.Frames.{opened, enough, counted};
+ghost use Rattle.script.specs.Frames.{opened, rightCount, counted};
 ghost use Rattle.script.specs.Regions.{innermost};
 ghost use Rattle.script.specs.Fronts.{framesOf};
 ghost use Rattle.script.specs.Framing.{isEmpty, Closed, Countable};
@@ -14,18 +14,18 @@ use crate::role::FrameKind;
 
 impl FrameKind {
     // Whether a frame of the kind can be closed with so many branches.
-    fn is_enough(self, branches: u16) -> bool
-        ensures { λ r. ⌜ r ≡ enough self branches ⌝ }
+    fn has_right_count(self, branches: u16) -> bool
+        ensures { λ r. ⌜ r ≡ rightCount self branches ⌝ }
     {
         match self {
-            FrameKind::Branches(_) => branches >= 2 && branches <= 7,
+            FrameKind::Forked(_) => branches >= 2 && branches <= 7,
             _ => true,
         }
     }
 }
 
 impl OpenFrames {
-    pub fn none() -> OpenFrames
+    pub(crate) fn none() -> OpenFrames
         ensures { λ r. ⌜ framesOf r ≡ [] ⌝ }
     {
         let frame = Frame {
@@ -39,20 +39,20 @@ impl OpenFrames {
         }
     }
 
-    pub fn is_empty(&self) -> bool
+    pub(crate) fn is_empty(&self) -> bool
         ensures { λ r. ⌜ r ≡ isEmpty (framesOf (now (self .entry))) ⌝ }
     {
         self.depth == 0
     }
 
     // The address of the innermost procedure or branch, or 0.
-    pub fn innermost(&self) -> u16
+    pub(crate) fn innermost(&self) -> u16
         ensures { λ r. ⌜ r ≡ innermost (framesOf (now (self .entry))) ⌝ }
     {
         for k in (0..self.depth).rev() {
             let frame = self.frames[k];
             match frame.kind {
-                FrameKind::Branches(_) => {}
+                FrameKind::Forked(_) => {}
                 _ => return frame.address,
             }
         }
@@ -60,7 +60,7 @@ impl OpenFrames {
     }
 
     // Opens a frame; false where as many are open as can be.
-    pub fn open(&mut self, kind: FrameKind, address: u16) -> bool
+    pub(crate) fn open(&mut self, kind: FrameKind, address: u16) -> bool
         ensures answer { λ r. ⌜ r ≡ ltb (length (framesOf (now (self .entry)))) 16 ⌝ }
         ensures frames { λ _. ⌜ framesOf (now (self .exit)) ≡ cond (ltb (length (framesOf (now (self .entry)))) 16) (opened kind address 0 ∷ framesOf (now (self .entry))) (framesOf (now (self .entry))) ⌝ }
     {
@@ -77,7 +77,7 @@ impl OpenFrames {
     }
 
     // Closes the innermost frame and answers where it was opened; none where the closer does not fit.
-    pub fn close(&mut self, kind: FrameKind) -> Option<u16>
+    pub(crate) fn close(&mut self, kind: FrameKind) -> Option<u16>
         requires { ⌜ Countable (framesOf (now self)) ⌝ }
         ensures { λ r. ⌜ Closed kind (framesOf (now (self .entry))) r (framesOf (now (self .exit))) ⌝ }
     {
@@ -85,7 +85,7 @@ impl OpenFrames {
             return None;
         }
         let frame = self.frames[self.depth - 1];
-        if !kind.is(frame.kind) || !kind.is_enough(frame.branches) {
+        if !kind.is(frame.kind) || !kind.has_right_count(frame.branches) {
             return None;
         }
         self.depth -= 1;

@@ -12,7 +12,7 @@ use crate::role::role_of;
 use instruction::instruction::Instruction;
 
 impl Instructions {
-    pub fn none() -> Instructions
+    pub(crate) fn none() -> Instructions
         ensures { λ r. ⌜ listOf r ≡ [] ⌝ }
     {
         Instructions {
@@ -22,7 +22,7 @@ impl Instructions {
     }
 
     // How many there are, N.
-    pub fn count(&self) -> usize
+    pub(crate) fn count(&self) -> usize
         ensures count { λ r. ⌜ r ≡ length (listOf (now (self .entry))) ⌝ }
         ensures few { λ r. ⌜ r ≤ 1024 ⌝ }
     {
@@ -30,7 +30,7 @@ impl Instructions {
     }
 
     // The one at an address from 1 to N; any other address reads as nop.
-    pub fn at(&self, address: usize) -> Instruction
+    pub(crate) fn at(&self, address: usize) -> Instruction
         ensures { λ r. ⌜ r ≡ instructionAt (listOf (now (self .entry))) address ⌝ }
     {
         if address == 0 || address > self.count {
@@ -39,14 +39,14 @@ impl Instructions {
         self.items[address - 1]
     }
 
-    pub fn role(&self, address: usize) -> Role
+    pub(crate) fn role(&self, address: usize) -> Role
         ensures { λ r. ⌜ r ≡ roleAt (listOf (now (self .entry))) address ⌝ }
     {
         role_of(self.at(address))
     }
 
     // One more.
-    pub fn add(&mut self, instruction: Instruction)
+    pub(crate) fn add(&mut self, instruction: Instruction)
         requires { ⌜ length (listOf (now self)) < 1024 ⌝ }
         ensures { λ _. ⌜ listOf (now (self .exit)) ≡ listOf (now (self .entry)) ++ instruction ∷ [] ⌝ }
     {

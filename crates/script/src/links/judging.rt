@@ -51,7 +51,7 @@ impl Links {
         }
     }
 
-    // Takes in an instruction of a role at an address; false where the open frames do not let it stand there.
+    // Takes in an instruction of a role at an address; false where the open frames do not let it stand there, and these links are of no use then.
     fn take_in(&mut self, role: Role, address: u16) -> bool
         requires some { ⌜ 1 ≤ address ⌝ }
         requires few { ⌜ address ≤ 1024 ⌝ }
@@ -76,7 +76,7 @@ impl Links {
 }
 
 // Judges the frames of a script.
-pub fn link(script: &Instructions) -> Result<Links, ImageRefusal>
+pub(crate) fn link(script: &Instructions) -> Result<Links, ImageRefusal>
     ensures { λ r. ⌜ Linked (listOf (now (script .entry))) r ⌝ }
 {
     let mut links = Links::none();

@@ -28,7 +28,6 @@ returns c = record {
   scriptWritten = refl;
   scriptMirrored = refl;
   paddedImage = refl;
-  paddedImageTold = refl;
   forkRead = refl;
   forkBranches = refl;
 }

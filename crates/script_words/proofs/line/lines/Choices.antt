@@ -6,4 +6,4 @@ use Rattle.script_words.proofs.Numbering.{LinesSoFar}
 use Rattle.script_words.proofs.line.lines.Given as given
 
 abbrev pub Inv-loop-before : given.InvT-loop-before
-Inv-loop-before l = LinesSoFar (λ position i. record { position = position; instruction = i }) (instructionsOf (l .script)) (length (instructionsOf (l .script))) (l .before) (vec-items (l .lines))
+Inv-loop-before l = LinesSoFar (λ address i. record { address = address; instruction = i }) (instructionsOf (l .script)) (length (instructionsOf (l .script))) (l .before) (vec-items (l .lines))

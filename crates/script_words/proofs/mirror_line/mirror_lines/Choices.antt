@@ -7,4 +7,4 @@ use Rattle.script_words.proofs.Numbering.{LinesSoFar}
 use Rattle.script_words.proofs.mirror_line.mirror_lines.Given as given
 
 abbrev pub Inv-loop-before : given.InvT-loop-before
-Inv-loop-before l = LinesSoFar (λ position i. record { position = position; instruction = i }) (mirrorsOf (instructionsOf (l .script))) (length (instructionsOf (l .script))) (l .before) (vec-items (l .lines))
+Inv-loop-before l = LinesSoFar (λ place i. record { place = place; instruction = i }) (mirrorsOf (instructionsOf (l .script))) (length (instructionsOf (l .script))) (l .before) (vec-items (l .lines))

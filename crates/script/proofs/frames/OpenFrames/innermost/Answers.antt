@@ -6,10 +6,10 @@ use Rattle.script.proofs.OpenTables.{innermost-here, innermost-further}
 use Rattle.script.proofs.frames.OpenFrames.innermost.Needs as need
 
 pub returns-in-rest : need.returns-in-rest
-returns-in-rest c = sym (c .loop-k .inv ∙ innermost-here (c .args .self .now .frames) (c .loop-k .k) (c .loop-k-test .taken) (c .in-rest .not-Branches))
+returns-in-rest c = sym (c .loop-k .inv ∙ innermost-here (c .args .self .now .frames) (c .loop-k .k) (c .loop-k-test .taken) (c .in-rest .not-Forked))
 
 pub loop-k-again : need.loop-k-again
-loop-k-again c = c .loop-k .inv ∙ innermost-further (c .args .self .now .frames) (c .loop-k .k) (c .in-Branches .field-0) (c .loop-k-test .taken) (c .in-Branches .is)
+loop-k-again c = c .loop-k .inv ∙ innermost-further (c .args .self .now .frames) (c .loop-k .k) (c .in-Forked .field-0) (c .loop-k-test .taken) (c .in-Forked .is)
 
 pub returns : need.returns
 returns c =
