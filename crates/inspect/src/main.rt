@@ -40,17 +40,19 @@ fn run(rt: &LibcRuntime) -> Result<(), Failure> {
 }
 
 fn show(rt: &LibcRuntime, entries: &[Entry], bytes: usize) -> Result<(), Failure> {
+    let lines = lines(rt.alloc(), entries)?;
+    let tally = Tally::of(rt.alloc(), entries)?;
     let count = entries.len();
     println!(rt, "entries {count}, bytes {bytes}")?;
     if entries.is_empty() {
         return Ok(());
     }
     println!(rt)?;
-    for line in lines(rt.alloc(), entries)?.iter() {
+    for line in lines.iter() {
         println!(rt, "{line}")?;
     }
     println!(rt)?;
-    show_tally(rt, &Tally::of(rt.alloc(), entries)?)
+    show_tally(rt, &tally)
 }
 
 fn show_tally(rt: &LibcRuntime, tally: &Tally) -> Result<(), Failure> {
