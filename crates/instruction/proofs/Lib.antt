@@ -1,1 +1,2 @@
 pub mod CodeTable
+pub mod MirroredScripts

@@ -1,4 +1,5 @@
--- The mirror of an instruction: what takes it back. Its codes are its own.
+-- The mirror of an instruction, which takes it back, and of a script. Mirrored instructions have codes of their own.
+use mathlib.Core.List.{List, map, reverse}
 use Prim.Native.Nat.{ℕ}
 use Rattle.instruction.specs.declared.instruction.Instruction.{Instruction}
 use Rattle.instruction.specs.declared.instruction.Instruction.the-variants.{Ipush, Load, Store, Jpc, Jmp, Op, Label, ParBegin, ParEnd, Alloc, Free, Proc, PReturn, Block, End, Fork, Merge, Nop}
@@ -24,6 +25,10 @@ mirrorOf (End b) = mirrored.Block b
 mirrorOf (Fork a) = mirrored.Merge a
 mirrorOf (Merge a) = mirrored.RFork a
 mirrorOf Nop = mirrored.Nop
+
+-- the mirrored script: the mirror of the last instruction is the first
+abbrev pub mirrorsOf : List Instruction → List MirrorInstruction
+mirrorsOf s = map mirrorOf (reverse s)
 
 -- the code of a mirrored instruction, and its operand
 abbrev pub mirrorCodeAndOperand : MirrorInstruction → ℕ × ℕ

@@ -1,11 +1,11 @@
 -- The bytes of a mirrored script, as they grow from the last instruction down to the first.
 use mathlib.Core.Path.{_≡_, refl, sym, ap, subst, _∙_}
-use mathlib.Core.List.{List, [], _∷_, _++_, map, reverse, reverse-cons}
+use mathlib.Core.List.{List, [], _∷_, _++_, map}
 use Prim.Native.Nat.{ℕ, zero, suc, _+_, _-_, _≤_, _<_}
 use native.Mathlib.Omega.{arith}
 use lib.ListN.{length, drop, getD}
 use Rattle.std.specs.Joined.{joined}
-use Rattle.std.proofs.shelf.Lists.{map-append, length-append, length-map, length-reverse, drop-all, drop-more, joined-more}
+use Rattle.std.proofs.shelf.Lists.{map-append, length-append, length-map, drop-all, drop-more, joined-more}
 use Rattle.varint.specs.Writings.{writing}
 use Rattle.varint.specs.Written.{Written}
 use Rattle.varint.proofs.WrittenBytes.{written-joined}
@@ -13,11 +13,13 @@ use Rattle.instruction.specs.declared.instruction.Instruction.{Instruction}
 use Rattle.instruction.specs.declared.instruction.Instruction.the-variants.{Nop}
 use Rattle.script.specs.Scripts.{instructionAt}
 use Rattle.script.specs.Images.{pairBytes}
+use Rattle.instruction.specs.Mirrors.{mirrorOf, mirrorsOf, mirrorCodeAndOperand}
+use Rattle.instruction.proofs.MirroredScripts.{as-many-mirrors, first-is-mirrored-last}
 use Rattle.mirror.specs.Mirrored.{mirrorPair, mirrorPairs, mirrorBytes, mirrorImage}
 
 -- the mirrored script has as many instructions as the script
 pub image-is-the-count-and-the-bytes : (s : List Instruction) → mirrorImage s ≡ writing (length s) ++ mirrorBytes s
-image-is-the-count-and-the-bytes s = ap (λ n. writing n ++ mirrorBytes s) (length-map (reverse s) mirrorPair ∙ length-reverse s)
+image-is-the-count-and-the-bytes s = ap (λ n. writing n ++ mirrorBytes s) (length-map (mirrorsOf s) mirrorCodeAndOperand ∙ as-many-mirrors s)
 
 pub length-image : (s : List Instruction) → length (mirrorImage s) ≡ length (writing (length s)) + length (mirrorBytes s)
 length-image s = ap length (image-is-the-count-and-the-bytes s) ∙ length-append (writing (length s)) (mirrorBytes s)
@@ -27,8 +29,8 @@ bytes-one-more s k h =
     let i : Instruction = getD s k Nop in
     let later : List Instruction = drop (k + 1) s in
     ap mirrorBytes (drop-more s k Nop h)
-    ∙ ap (λ l. joined pairBytes (map mirrorPair l)) (reverse-cons i later)
-    ∙ ap (joined pairBytes) (map-append mirrorPair (reverse later) (i ∷ []))
+    ∙ ap (λ l. joined pairBytes (map mirrorCodeAndOperand l)) (first-is-mirrored-last i later)
+    ∙ ap (joined pairBytes) (map-append mirrorCodeAndOperand (mirrorsOf later) (mirrorOf i ∷ []))
     ∙ sym (joined-more pairBytes [] (mirrorPairs later) (mirrorPair i))
 
 -- the bytes of the mirrors behind an address, and those of the instruction at the address

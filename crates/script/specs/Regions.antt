@@ -27,17 +27,18 @@ openBefore s (suc a) = orNone (framesAfter s a (openBefore s a))
 abbrev pub around : Role → ℕ → List Frame → List Frame
 around role a fs = byFraming fs (λ kind. opened kind a 0 ∷ fs) (λ kind. fs) role
 
--- the address of the innermost procedure or branch; 0 is the whole script
+-- the region inside a frame that was opened at an address: a procedure and a branch are regions of their own, a fork is in the one around it
 abbrev pub regionFrom : FrameKind → ℕ → ℕ → ℕ
 regionFrom (Procedure p) a outer = a
 regionFrom Branch a outer = a
 regionFrom (Forked b) a outer = outer
 
+-- the address of the innermost procedure or branch; 0 is the whole script
 abbrev pub innermost : List Frame → ℕ
 innermost [] = 0
 innermost (f ∷ fs) = regionFrom (f .kind) (f .address) (innermost fs)
 
--- the region of an instruction: the innermost regionFrom from proc to p_return, or from par begin to par end, that holds it, ends included
+-- the region of an instruction: the innermost stretch from proc to p_return, or from par begin to par end, that holds it, ends included
 unfoldable pub region : List Instruction → ℕ → ℕ
 region s a = innermost (around (roleAt s a) a (openBefore s a))
 

@@ -15,7 +15,7 @@ use crate::references::check_references;
 use crate::refusal::ImageRefusal;
 use crate::script::Script;
 
-// The instructions of an image.
+// The instructions of an image. `read` calls it first, so the laws that it hands on are known on every way out of `read`.
 fn read_instructions(bytes: &[u8]) -> Result<Instructions, ImageRefusal>
     ensures answer { λ r. ⌜ held r ≡ instructionsRead (now (bytes .entry)) ⌝ }
     ensures image { λ r. ⌜ made r (λ instructions. hasImage (listOf instructions) ≡ true) ⌝ }

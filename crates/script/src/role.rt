@@ -4,7 +4,7 @@ ghost use Rattle.script.specs.Roles.{roleOf, sameKind, frameName, givenName, b
 ghost use Rattle.script.specs.Frames.{besideBy};
 use instruction::instruction::Instruction;
 
-// A regionFrom of instructions from an opener to its closer.
+// A stretch of instructions from an opener to its closer.
 #[derive(Clone, Copy)]
 pub(crate) enum FrameKind {
     Procedure(u8), // from proc to p_return

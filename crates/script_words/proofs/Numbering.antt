@@ -5,13 +5,13 @@ use Prim.Native.Nat.{ℕ, suc, _+_, _-_, _≤_, _<_}
 use native.Mathlib.Numerals.{add-one}
 use native.Mathlib.Omega.{arith}
 use lib.ListN.{length, getD, take}
-use Rattle.std.proofs.shelf.Lists.{take-more, take-all, length-take-le, length-map, length-reverse, getD-map, getD-reverse}
+use Rattle.std.proofs.shelf.Lists.{take-more, take-all, length-take-le, length-reverse, getD-map, getD-reverse}
 use Rattle.instruction.specs.declared.instruction.Instruction.{Instruction}
 use Rattle.instruction.specs.declared.instruction.Instruction.the-variants.{Nop}
 use Rattle.instruction.specs.declared.mirror.MirrorInstruction.the-variants as mirrored
-use Rattle.instruction.specs.Mirrors.{mirrorOf}
+use Rattle.instruction.specs.Mirrors.{mirrorOf, mirrorsOf}
 use Rattle.script.specs.Scripts.{instructionAt}
-use Rattle.script_words.specs.Numbering.{numberedFrom, mirrorsOf}
+use Rattle.script_words.specs.Numbering.{numberedFrom}
 
 -- the lines of the first k elements of a list of n: at last they are all
 pub record LinesSoFar {X Y : Type 0} (line : ℕ → X → Y) (xs : List X) (n k : ℕ) (done : List Y) : Type 0 where
@@ -54,6 +54,3 @@ mirror-at-the-next-place s n k count h =
     ap (λ a. mirrorOf (instructionAt s a)) address
     ∙ ap mirrorOf (sym (getD-reverse s k Nop (omega arith)))
     ∙ sym (getD-map mirrorOf (reverse s) k Nop mirrored.Nop (omega (arith, length-reverse s)))
-
-pub as-many-mirrors : (s : List Instruction) → length (mirrorsOf s) ≡ length s
-as-many-mirrors s = length-map (reverse s) mirrorOf ∙ length-reverse s

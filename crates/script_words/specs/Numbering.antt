@@ -1,9 +1,8 @@
 -- The lines of a script and of its mirrored script.
-use mathlib.Core.List.{List, [], _∷_, map, reverse}
+use mathlib.Core.List.{List, [], _∷_}
 use Prim.Native.Nat.{ℕ, suc}
 use Rattle.instruction.specs.declared.instruction.Instruction.{Instruction}
 use Rattle.instruction.specs.declared.mirror.MirrorInstruction.{MirrorInstruction}
-use Rattle.instruction.specs.Mirrors.{mirrorOf}
 use Rattle.script_words.specs.declared.line.Line.{Line}
 use Rattle.script_words.specs.declared.mirror_line.MirrorLine.{MirrorLine}
 
@@ -17,7 +16,3 @@ linesOf s = numberedFrom (λ address i. record { address = address; instruction 
 
 abbrev pub mirrorLinesOf : List MirrorInstruction → List MirrorLine
 mirrorLinesOf s = numberedFrom (λ place i. record { place = place; instruction = i }) 1 s
-
--- the instructions of the mirrored script: the mirror of the last one is the first
-abbrev pub mirrorsOf : List Instruction → List MirrorInstruction
-mirrorsOf s = map mirrorOf (reverse s)

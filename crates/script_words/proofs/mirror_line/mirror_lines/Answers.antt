@@ -2,10 +2,10 @@
 use mathlib.Core.Path.{ap, _∙_}
 use native.Mathlib.Omega.{arith}
 use Rattle.std.specs.Of.Vec.{vec-items}
-use Rattle.instruction.specs.Mirrors.{mirrorOf}
+use Rattle.instruction.specs.Mirrors.{mirrorOf, mirrorsOf}
+use Rattle.instruction.proofs.MirroredScripts.{as-many-mirrors}
 use Rattle.script.specs.Calls.{instructionsOf}
-use Rattle.script_words.specs.Numbering.{mirrorsOf}
-use Rattle.script_words.proofs.Numbering.{no-line-stands, next-line-goes-behind, mirror-at-the-next-place, as-many-mirrors}
+use Rattle.script_words.proofs.Numbering.{no-line-stands, next-line-goes-behind, mirror-at-the-next-place}
 use Rattle.script_words.proofs.mirror_line.mirror_lines.Needs as need
 
 pub loop-before-holds : need.loop-before-holds

@@ -2,7 +2,7 @@
 use lib.ListN.{length}
 use Rattle.std.specs.Of.Vec.{vec-items}
 use Rattle.script.specs.Calls.{instructionsOf}
-use Rattle.script_words.specs.Numbering.{mirrorsOf}
+use Rattle.instruction.specs.Mirrors.{mirrorsOf}
 use Rattle.script_words.proofs.Numbering.{LinesSoFar}
 use Rattle.script_words.proofs.mirror_line.mirror_lines.Given as given
 
