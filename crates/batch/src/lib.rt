@@ -1,4 +1,6 @@
 // Whole lists of entries through any journal.
+#![tactic(auto)]
+
 ghost use Rattle.std.specs.Prelude.{◌≡◌, ◌++◌, IfOk, OnOk};
 ghost use Rattle.batch.specs.Runs.{longest_run, recorded, Stepped};
 

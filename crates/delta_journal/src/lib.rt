@@ -1,4 +1,6 @@
 // A layer over any journal that passes entries down with differences for numbers.
+#![tactic(auto)]
+
 ghost use Rattle.std.specs.Prelude.{◌≡◌, [], ◌∷◌, pos, ◌-ℤ◌, IfOk, IfErr, MatchResult, OnOk, ◌≢◌};
 ghost use Rattle.std.specs.Int.{int_wrap, w32};
 ghost use Rattle.journal.specs.Meaning.{older_of};

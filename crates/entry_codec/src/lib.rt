@@ -1,4 +1,6 @@
 // An entry in bytes: owner, kind and folded number as numbers of seven-bit groups.
+#![tactic(auto)]
+
 ghost use Rattle.std.specs.Prelude.{◌≡◌, ◌+◌, ◌≤◌, length, IfOk};
 ghost use Rattle.journal.specs.Kinds.{kind_of};
 ghost use Rattle.varint.specs.Written.{Wrote};

@@ -1,4 +1,6 @@
 // Shows a packed journal: its entries, the newest first, and how many each process and each row has.
+#![tactic(auto)]
+
 use entries::entries_in;
 use failure::{Failure, USAGE};
 use journal::entry::Entry;

@@ -1,4 +1,6 @@
 // Shows a script and its mirrored script, an instruction to a line.
+#![tactic(auto)]
+
 use failure::{Failure, USAGE};
 use mirror::mirror_size;
 use program_input::{Request, asked};

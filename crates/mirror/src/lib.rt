@@ -1,4 +1,6 @@
 // Writes the mirrored script of a script as an image.
+#![tactic(auto)]
+
 ghost use Rattle.std.specs.Prelude.{◌≡◌, ◌+◌, ◌≤◌, length};
 ghost use Rattle.varint.specs.Writings.{writing};
 ghost use Rattle.varint.specs.Written.{Wrote};

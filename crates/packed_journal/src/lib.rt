@@ -1,4 +1,6 @@
 // A journal in lent bytes, the oldest entry first.
+#![tactic(auto)]
+
 ghost use Rattle.std.specs.Prelude.{◌≡◌, min, length, take, IfOk, IfErr, Err, OnErr, OnOk};
 ghost use Rattle.journal.specs.Meaning.{push_answer, pushed, newest_of, older_of};
 ghost use Rattle.varint.specs.Written.{Written};

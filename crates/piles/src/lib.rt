@@ -1,4 +1,6 @@
 // A client that is proved once for every journal, and piles of layers for it to run on.
+#![tactic(auto)]
+
 ghost use Rattle.std.specs.Prelude.{◌≡◌, length, IfOk, if◌then◌else◌, Some, None, nat_le};
 ghost use Rattle.batch.specs.Runs.{recorded};
 

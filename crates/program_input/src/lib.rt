@@ -1,4 +1,6 @@
 // What a program that shows bytes is asked for: the bytes of the file that its one word names, or else of standard input.
+#![tactic(auto)]
+
 use std::io::Read;
 use std::{env, fmt, fs, io};
 

@@ -1,4 +1,6 @@
 // What the entries of a journal say, in words.
+#![tactic(auto)]
+
 pub mod line;
 pub mod owner;
 pub mod refusal;

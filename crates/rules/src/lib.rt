@@ -1,4 +1,5 @@
 // The rules of the machine, and what is proved of them.
+#![tactic(auto)]
 
 pub mod call;
 pub mod refusal;

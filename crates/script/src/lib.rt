@@ -1,4 +1,6 @@
 // Scripts: images read and judged by every rule.
+#![tactic(auto)]
+
 mod frames;
 mod instructions;
 mod links;

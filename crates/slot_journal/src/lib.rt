@@ -1,4 +1,6 @@
 // A journal over a lent table, with one entry in each place.
+#![tactic(auto)]
+
 ghost use Rattle.std.specs.Prelude.{◌≡◌, ◌+◌, ◌<◌, true, [], ◌∷◌, length, OnErr, OnOk, slice_set};
 ghost use Rattle.journal.specs.Meaning.{push_answer, pushed, newest_of, older_of};
 ghost use Rattle.slot_journal.specs.Slots.{held, places_enough, NewestPlace, table_of, list_of, rule_of};

@@ -1,4 +1,6 @@
 // How many entries each process and each row has.
+#![tactic(auto)]
+
 ghost use Rattle.std.specs.Prelude.{◌+◌, ◌^◌, ◌<◌, List, [], ◌∷◌, ◌++◌, length, IfOk, Some, OnOk};
 ghost use Rattle.journal.specs.declared.entry.Entry.{Entry};
 ghost use Rattle.tally.specs.Counts.{Tallied, CountedUp, share_text};

@@ -1,4 +1,6 @@
 // The worked cases of the formats, proved of the definitions.
+#![tactic(auto)]
+
 ghost use Rattle.worked_cases.specs.Cases.{WorkedCases};
 
 #[cfg(test)]

@@ -1,5 +1,5 @@
 -- A number is scanned byte by byte, as the definition reads it.
-use Rattle.std.proofs.Common.{◌-◌, eqb, ltb, ◌⊎◌, get_or, sym, ◌∙◌, inl, inr, ⊎_elim, arith}
+use Rattle.std.proofs.Common.{◌-◌, eqb, ltb, get_or, sym, ◌∙◌, inl, inr, ⊎_elim, arith}
 use Rattle.std.proofs.lemmas.Bool.{eqb-true, eqb-false, ltb-true, ltb-false}
 use Rattle.varint.proofs.Readings.{scanned_end, scanned_within, judged_wrong, own_scanned, later_stop, scanning_starts, scanning_goes_on, scanning_fails, scanning_ends}
 use Rattle.varint.proofs.number.scan.Goals as goal
@@ -15,17 +15,17 @@ returns-then-first-ge128 c =
 pub loop-end-init : goal.loop-end-init
 loop-end-init c = scanning_starts c.args.bytes.now c.args.at _ (omega arith) (omega arith) c.from-value.ensures
 
-pub returns-then-end-at-ge-MOST-GROUPS : goal.returns-then-end-at-ge-MOST-GROUPS
-returns-then-end-at-ge-MOST-GROUPS c =
+pub returns-then-end-at-ge-MOST_GROUPS : goal.returns-then-end-at-ge-MOST_GROUPS
+returns-then-end-at-ge-MOST_GROUPS c =
     record {
       answer = sym (scanning_fails c.args.bytes.now c.args.at c.loop-end.end c.loop-end.value c.loop-end.invariant (omega arith) (omega arith)
-          (⊎_elim inl (λ p. inr p.1) c.then-end-at-ge-MOST-GROUPS.either));
+          (⊎_elim inl (λ p. inr p.1) c.then-end-at-ge-MOST_GROUPS.either));
       writing = tt;
     }
 
 pub loop-end-preserved : goal.loop-end-preserved
 loop-end-preserved c =
-    let f = (c.type-inv.bytes c.loop-end.end).fits in
+    let f = (c.type_inv.bytes c.loop-end.end).fits in
     scanning_goes_on c.args.bytes.now c.args.at c.loop-end.end c.loop-end.value _ c.loop-end.invariant (omega arith) (omega arith) (omega (arith, f)) (omega arith) (omega arith) c.from.ensures
 
 pub returns-then-end-at-eq1 : goal.returns-then-end-at-eq1
