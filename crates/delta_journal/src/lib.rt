@@ -22,7 +22,7 @@ pub struct Delta<J: Journal> {
 impl<J: Journal> Delta<J> {
     // Whether the journal can bear the layer: it has no entry.
     pub fn ask(journal: &J) -> Result<(), LayRefusal>
-        ensures { MatchResult result (λ _. entries journal.now ≡ []) (λ f. (entries journal.now ≢ []) × (f ≡ LayRefusal.EntryBeneath) × (told f ≡ (14, 0))) }
+        ensures { MatchResult result (λ _. J.entries journal.now ≡ []) (λ f. (J.entries journal.now ≢ []) × (f ≡ LayRefusal.EntryBeneath) × (told f ≡ (14, 0))) }
     {
         match journal.newest() {
             None => Ok(()),
@@ -32,10 +32,10 @@ impl<J: Journal> Delta<J> {
 
     // The empty layer on the journal, or the journal back. A list fits where its differences from 0 on fit below.
     pub fn lay(journal: J) -> Result<Delta<J>, Refused<J>>
-        ensures laid { IfOk result (λ d. (entries journal ≡ []) × (d.below ≡ journal) × (d.kept ≡ pos 0) × (originals d.kept (entries d.below) ≡ [])) }
-        ensures rule { IfOk result (λ d. differences_fit (fits d.below) (base_of d.kept (entries d.below)) ≡ differences_fit (fits journal) (pos 0)) }
+        ensures laid { IfOk result (λ d. (J.entries journal ≡ []) × (d.below ≡ journal) × (d.kept ≡ pos 0) × (originals d.kept (J.entries d.below) ≡ [])) }
+        ensures rule { IfOk result (λ d. differences_fit (J.fits d.below) (base_of d.kept (J.entries d.below)) ≡ differences_fit (J.fits journal) (pos 0)) }
         ensures numbers_come_back { OnOk result (NumbersComeBack) }
-        ensures handed_back { IfErr result (λ f. (entries journal ≢ []) × (f.back ≡ journal) × (f.refusal ≡ LayRefusal.EntryBeneath) × (told f.refusal ≡ (14, 0))) }
+        ensures handed_back { IfErr result (λ f. (J.entries journal ≢ []) × (f.back ≡ journal) × (f.refusal ≡ LayRefusal.EntryBeneath) × (told f.refusal ≡ (14, 0))) }
     {
         if let Err(refusal) = Delta::ask(&journal) {
             let back = journal;
@@ -56,7 +56,7 @@ impl<J: Journal> Delta<J> {
     fn difference(&self, entry: Entry) -> Entry
         ensures entry_back { renumbered result entry.number ≡ entry }
         ensures kept_back { int_wrap w32 (entry.number -ℤ result.number) ≡ self.now.kept }
-        ensures list { differences (base_of self.now.kept (entries self.now.below)) (entry ∷ originals self.now.kept (entries self.now.below)) ≡ result ∷ entries self.now.below }
+        ensures list { differences (base_of self.now.kept (J.entries self.now.below)) (entry ∷ originals self.now.kept (J.entries self.now.below)) ≡ result ∷ J.entries self.now.below }
     {
         Entry {
             owner: entry.owner,
@@ -92,15 +92,15 @@ impl<J: Journal> Delta<J> {
 
     // The newest difference.
     fn newest_below(&self) -> Option<Entry>
-        ensures { Taken (entries self.now.below) result (older_of (entries self.now.below)) }
+        ensures { Taken (J.entries self.now.below) result (older_of (J.entries self.now.below)) }
     {
         self.below.newest()
     }
 
     // Takes the newest difference away.
     fn pop_below(&mut self) -> Option<Entry>
-        ensures list { Taken (entries self.old.below) result (entries self.new.below) }
-        ensures rule { fits self.new.below ≡ fits self.old.below }
+        ensures list { Taken (J.entries self.old.below) result (J.entries self.new.below) }
+        ensures rule { J.fits self.new.below ≡ J.fits self.old.below }
         ensures kept { self.new.kept ≡ self.old.kept }
     {
         self.below.pop()

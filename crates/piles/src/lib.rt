@@ -17,7 +17,7 @@ pub fn round_trip<J: Journal + Drop>(
     batch: &[Entry],
     heap: Global,
 ) -> Result<Vec<Entry>, AllocError>
-    ensures { IfOk result (λ v. v.items ≡ recorded (fits journal) (entries journal) batch.now) }
+    ensures { IfOk result (λ v. v.items ≡ recorded (J.fits journal) (J.entries journal) batch.now) }
 {
     record_until_full(&mut journal, batch);
     into_entries(journal, heap)

@@ -7,5 +7,5 @@ pub loop-entry-preserved : goal.loop-entry-preserved
 loop-entry-preserved g c =
     let entries = g.J.Journal.entries in
     let pop = c.in-Some.ensures in
-    let push = rw c.in-ok-push.was at c.push.ensures.items in
+    let push = rw c.in_ok-push.was at c.push.ensures.items in
     newest_moves_behind _ (vec_items c.push.new.self) (entries c.loop-entry.journal) (entries c.pop.new.self) _ _ pop.answer pop.list push c.loop-entry.invariant

@@ -10,7 +10,7 @@ returns-in-Some g c =
     let found = c.in-Some.ensures.lookup in
     let push = c.push.ensures in
     record {
-      step = pushed_entry_steps fits _ entries _ _ c.in-Some.entry.now _ _ found.3.0 found.1 c.is-ok.ensures.value push.answer push.list;
+      step = pushed_entry_steps fits _ entries _ _ c.in-Some.entry.now _ _ found.3.0 found.1 c.is_ok.ensures.value push.answer push.list;
       rule = push.rule;
     }
 

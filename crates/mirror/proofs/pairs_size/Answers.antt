@@ -9,7 +9,7 @@ loop-address-init c = (ap length (sym (no_bytes_behind_the_last (instructions_of
 
 pub loop-address-preserved : goal.loop-address-preserved
 loop-address-preserved c =
-    let more = size_one_more (instructions_of c.args.script.now) c.loop-address.address c.mirror-pair.result (omega arith) (omega arith) c.mirror-pair.ensures in
+    let more = size_one_more (instructions_of c.args.script.now) c.loop-address.address c.mirror_pair.result (omega arith) (omega arith) c.mirror_pair.ensures in
     (omega arith, omega arith)
 
 pub returns : goal.returns

@@ -6,12 +6,12 @@ use Rattle.mirror.proofs.Behind.{room_behind_the_count, wrote_behind_the_count}
 use Rattle.mirror.proofs.Mirroring.{length_image}
 use Rattle.mirror.proofs.put_mirror.Goals as goal
 
-pub returns-in-err-pairs-at : goal.returns-in-err-pairs-at
-returns-in-err-pairs-at c =
-    absurd (omega (arith, c.in-err-pairs-at.ensures.answer.0, ap (λ n. length (writing n)) c.count.ensures.count, length_image (instructions_of c.args.script.now)))
+pub returns-in_err-pairs_at : goal.returns-in_err-pairs_at
+returns-in_err-pairs_at c =
+    absurd (omega (arith, c.in_err-pairs_at.ensures.answer.0, ap (λ n. length (writing n)) c.count.ensures.count, length_image (instructions_of c.args.script.now)))
 
-pub put-pairs-requires : goal.put-pairs-requires
-put-pairs-requires c = room_behind_the_count _ _ _ _ _ c.count.ensures.count c.in-ok-pairs-at.ensures.answer (omega arith) c.requires
+pub put_pairs-requires : goal.put_pairs-requires
+put_pairs-requires c = room_behind_the_count _ _ _ _ _ c.count.ensures.count c.in_ok-pairs_at.ensures.answer (omega arith) c.requires
 
 pub returns : goal.returns
-returns c = wrote_behind_the_count _ _ _ _ _ c.count.ensures.count c.in-ok-pairs-at.ensures.answer (omega arith) c.requires _ c.put-pairs.result c.put-pairs.ensures
+returns c = wrote_behind_the_count _ _ _ _ _ c.count.ensures.count c.in_ok-pairs_at.ensures.answer (omega arith) c.requires _ c.put_pairs.result c.put_pairs.ensures

@@ -5,7 +5,7 @@ use Rattle.packed_journal.proofs.append.Goals as goal
 
 pub returns-in-Ok : goal.returns-in-Ok
 returns-in-Ok c =
-    appended c.args.bytes.now c.write-entry.new.bytes c.args.used c.min-at.result c.in-Ok.end c.args.entry (omega arith) (omega arith) c.in-Ok.ensures.answer
+    appended c.args.bytes.now c.write_entry.new.bytes c.args.used c.min-at.result c.in-Ok.end c.args.entry (omega arith) (omega arith) c.in-Ok.ensures.answer
 
 pub returns-in-Err : goal.returns-in-Err
 returns-in-Err c =

@@ -13,7 +13,7 @@ returns g c =
     let f : SFits w32 c.args.self.now.kept = search rules in
     let r = wrapping_sub_is w32 e.number kept (number_fits e) f in
     record {
-      entry-back = same_entry _ e refl refl (int_wrap_fits w32 e.number (number_fits e));
+      entry_back = same_entry _ e refl refl (int_wrap_fits w32 e.number (number_fits e));
       kept_back = ap (λ n. int_wrap w32 (e.number -ℤ n)) r ∙ number_less_difference_is_number_before e.number kept f;
       list = difference_stands_on_differences _ kept _ e f refl refl r (differences_of_originals _ kept f);
     }

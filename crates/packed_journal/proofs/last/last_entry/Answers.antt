@@ -3,17 +3,17 @@ use Rattle.std.proofs.Common.{rules}
 use Rattle.packed_journal.specs.Packing.{last_entry}
 use Rattle.packed_journal.proofs.last.last_entry.Goals as goal
 
-pub returns-in-err-number : goal.returns-in-err-number
+pub returns-in_err-number : goal.returns-in_err-number
 unfolding last_entry
-returns-in-err-number c = search rules
+returns-in_err-number c = search rules
 
-pub returns-in-err-kind : goal.returns-in-err-kind
+pub returns-in_err-kind : goal.returns-in_err-kind
 unfolding last_entry
-returns-in-err-kind c = search rules
+returns-in_err-kind c = search rules
 
-pub returns-in-err-start : goal.returns-in-err-start
+pub returns-in_err-start : goal.returns-in_err-start
 unfolding last_entry
-returns-in-err-start c = search rules
+returns-in_err-start c = search rules
 
 pub returns-in-Ok : goal.returns-in-Ok
 unfolding last_entry

@@ -10,21 +10,21 @@ pub loop-at-init : goal.loop-at-init
 unfolding read_all
 loop-at-init c = (length c.args.bytes.now, omega arith, ([], refl))
 
-pub returns-in-err-at : goal.returns-in-err-at
-returns-in-err-at c =
+pub returns-in_err-at : goal.returns-in_err-at
+returns-in_err-at c =
     let i = c.loop-at.invariant in
-    let e = i.2.1 ∙ read_refused i.0 c.args.bytes.now c.loop-at.at i.2.0 c.in-err-at.field-0.0 (omega arith) i.1 (sym c.in-err-at.ensures) in
-    let p = err_from_is_err_and c.from-residual.result c.from-residual.ensures.1 in
+    let e = i.2.1 ∙ read_refused i.0 c.args.bytes.now c.loop-at.at i.2.0 c.in_err-at.field-0.0 (omega arith) i.1 (sym c.in_err-at.ensures) in
+    let p = err_from_is_err_and c.from_residual.result c.from_residual.ensures.1 in
     rw (p.1, p.2) (record { answer = e; back = yield_each_other_back; unique = one_writing })
 
 pub loop-at-smaller : goal.loop-at-smaller
-loop-at-smaller c = omega (arith, (forward_read c.args.bytes.now c.loop-at.at c.in-ok-at.field-0 (sym c.in-ok-at.ensures)).0)
+loop-at-smaller c = omega (arith, (forward_read c.args.bytes.now c.loop-at.at c.in_ok-at.field-0 (sym c.in_ok-at.ensures)).0)
 
 pub loop-at-preserved : goal.loop-at-preserved
 loop-at-preserved c =
     let i = c.loop-at.invariant in
-    let t = read_turn i.0 c.args.bytes.now c.loop-at.at i.2.0 c.in-ok-at.field-0 (omega arith) i.1 (sym c.in-ok-at.ensures) in
-    (t.0, t.1, (c.in-ok-at.field-0.entry ∷ i.2.0, i.2.1 ∙ t.2))
+    let t = read_turn i.0 c.args.bytes.now c.loop-at.at i.2.0 c.in_ok-at.field-0 (omega arith) i.1 (sym c.in_ok-at.ensures) in
+    (t.0, t.1, (c.in_ok-at.field-0.entry ∷ i.2.0, i.2.1 ∙ t.2))
 
 pub returns : goal.returns
 returns c =

@@ -8,4 +8,4 @@ use Rattle.script.proofs.names.has_block.Goals as goal
 pub returns : goal.returns
 returns c =
     let n : c.count.result + 1 ≡ suc (length (list_of c.args.script.now)) = add-one c.count.result ∙ ap suc c.count.ensures.count in
-    c.is-given-before.ensures ∙ ap (some_before (gives (Block c.args.name)) (list_of c.args.script.now)) n
+    c.is_given_before.ensures ∙ ap (some_before (gives (Block c.args.name)) (list_of c.args.script.now)) n

@@ -7,7 +7,7 @@ pub returns-in-Some : goal.returns-in-Some
 returns-in-Some c = sym (c.loop-address.invariant ∙ reference_wrong (list_of c.args.script.now) c.loop-address.address c.in-Some.refusal (omega arith) c.in-Some.ensures)
 
 pub loop-address-preserved : goal.loop-address-preserved
-loop-address-preserved c = c.loop-address.invariant ∙ reference_fine (list_of c.args.script.now) c.loop-address.address (omega arith) c.in-default.ensures
+loop-address-preserved c = c.loop-address.invariant ∙ reference_fine (list_of c.args.script.now) c.loop-address.address (omega arith) c.in_default.ensures
 
 pub returns : goal.returns
 returns c = sym (c.loop-address.invariant ∙ references_end (list_of c.args.script.now) c.loop-address.address (omega arith))

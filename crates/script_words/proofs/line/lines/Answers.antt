@@ -10,4 +10,4 @@ loop-before-init c = no_line_stands _ (instructions_of c.args.script.now) _ refl
 pub loop-before-preserved : goal.loop-before-preserved
 loop-before-preserved c =
     let s = instructions_of c.args.script.now in
-    next_line_goes_behind _ s _ refl c.loop-before.before c.at-instruction.result _ (vec_items c.loop-before.lines) (vec_items c.push.new.self) (omega arith) (c.at-instruction.ensures ∙ at_the_next_address s c.loop-before.before) c.loop-before.invariant c.in-ok-push.ensures.items
+    next_line_goes_behind _ s _ refl c.loop-before.before c.at-instruction.result _ (vec_items c.loop-before.lines) (vec_items c.push.new.self) (omega arith) (c.at-instruction.ensures ∙ at_the_next_address s c.loop-before.before) c.loop-before.invariant c.in_ok-push.ensures.items

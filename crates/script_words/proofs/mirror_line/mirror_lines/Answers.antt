@@ -15,4 +15,4 @@ pub loop-before-preserved : goal.loop-before-preserved
 loop-before-preserved c =
     let s = instructions_of c.args.script.now in
     let here = c.mirror-instruction.ensures ∙ ap mirror_of c.at.ensures ∙ mirror_at_the_next_place s c.count-count.result c.loop-before.before c.count-count.ensures.count (omega arith) in
-    next_line_goes_behind _ (mirrors_of s) _ (as_many_mirrors s) c.loop-before.before c.mirror-instruction.result _ (vec_items c.loop-before.lines) (vec_items c.push.new.self) (omega arith) here c.loop-before.invariant c.in-ok-push.ensures.items
+    next_line_goes_behind _ (mirrors_of s) _ (as_many_mirrors s) c.loop-before.before c.mirror-instruction.result _ (vec_items c.loop-before.lines) (vec_items c.push.new.self) (omega arith) here c.loop-before.invariant c.in_ok-push.ensures.items
