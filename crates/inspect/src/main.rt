@@ -7,17 +7,19 @@ use journal::entry::Entry;
 use program_input::{Request, asked};
 use report::line::lines;
 use report::owner::Owner;
+use std::process::ExitCode;
 use tally::{Share, Tally};
 
 mod entries;
 mod failure;
 
-fn main(rt: HostRuntime) -> Result<(), Failure> {
-    let result = run(&rt);
-    if let Err(failure) = &result {
-        eprintln!(rt; "{failure}")?;
-    }
-    result
+// A failure is told in its own words, and ends the program with status 1 even where it cannot be told.
+fn main(rt: HostRuntime) -> ExitCode {
+    let Err(failure) = run(&rt) else {
+        return ExitCode::SUCCESS;
+    };
+    let _ = eprintln!(rt; "{failure}");
+    ExitCode::FAILURE
 }
 
 fn run(rt: &HostRuntime) -> Result<(), Failure> {

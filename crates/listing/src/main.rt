@@ -8,15 +8,17 @@ use script::reader::read;
 use script_words::line::lines;
 use script_words::mirror_line::mirror_lines;
 use std::fmt::Display;
+use std::process::ExitCode;
 
 mod failure;
 
-fn main(rt: HostRuntime) -> Result<(), Failure> {
-    let result = run(&rt);
-    if let Err(failure) = &result {
-        eprintln!(rt; "{failure}")?;
-    }
-    result
+// A failure is told in its own words, and ends the program with status 1 even where it cannot be told.
+fn main(rt: HostRuntime) -> ExitCode {
+    let Err(failure) = run(&rt) else {
+        return ExitCode::SUCCESS;
+    };
+    let _ = eprintln!(rt; "{failure}");
+    ExitCode::FAILURE
 }
 
 fn run(rt: &HostRuntime) -> Result<(), Failure> {
