@@ -1,5 +1,5 @@
 -- How forks and merges start and remove branches, in both directions.
-use Rattle.std.specs.Prelude.{ℕ, zero, suc, ◌+◌, ◌*◌, Bool, false, cond, ◌&&◌, List, [], ◌∷◌, length, Some, None, Option, nat_eq, nat_le}
+use Rattle.std.specs.Prelude.{ℕ, zero, suc, ◌+◌, ◌*◌, Bool, false, ◌&&◌, List, [], ◌∷◌, length, Some, None, Option, nat_eq, nat_le}
 use Rattle.rules.specs.Tables.{found, removed, guard}
 use Rattle.rules.specs.State.{Processes}
 

@@ -1,9 +1,8 @@
 -- The calls: each answers with the state that it leads to, or with a refusal, and then nothing has changed.
-use Rattle.std.specs.Prelude.{◌≡◌, ℕ, zero, suc, Bool, true, false, cond, not, ◌&&◌, ◌||◌, T, List, [], ◌∷◌, ◌++◌, length, drop, ℤ, pos, is_some, Some, None, Ok, Err, Option, Result, ◌==◌, nat_eq, nat_le, nat_lt, slice_index_or, refl}
+use Rattle.std.specs.Prelude.{◌≡◌, ℕ, Bool, true, false, cond, not, ◌&&◌, ◌||◌, T, List, [], ◌∷◌, ◌++◌, length, drop, ℤ, pos, is_some, Some, None, Ok, Err, Option, Result, ◌==◌, nat_eq, nat_le, nat_lt, slice_index_or, refl}
 use Rattle.std.proofs.Common.{subst, sym, leb→le, ltb→lt}
 use Rattle.std.specs.Int.Signed.{mag}
 use Rattle.std.specs.Option.{ok_or}
-use Rattle.std.specs.Result.{result_map_both}
 use Rattle.journal.specs.declared.entry.Entry.{Entry}
 use Rattle.journal.specs.declared.kind.Kind.{Kind}
 use Rattle.journal.specs.declared.kind.Kind.TheVariants as kind
@@ -20,8 +19,8 @@ use Rattle.rules.specs.declared.refusal.Cause.TheVariants.{WrongNames, TooManyPr
 use Rattle.rules.specs.declared.refusal.Refusal.{Refusal}
 use Rattle.rules.specs.declared.refusal.Refusal.TheVariants.{Image, TooManyFigures, ScriptLoaded, RunStands, NoRow, NoScript, NoForwardRun, CannotGo, NothingToTakeBack, NobodyCanGo, JournalFull, Halted, BufferTooShort}
 use Rattle.rules.specs.Tables.{found, changed, bind, guard}
-use Rattle.rules.specs.Variables.{Variables, Change, sets, changed_by, seen, is_empty}
-use Rattle.rules.specs.State.{Path, names, Running, Place, behind, gone_back, Retreating, Processes, Phase, at_rest, forward, going_back, State, turned_round}
+use Rattle.rules.specs.Variables.{Variables, sets, changed_by, seen, is_empty}
+use Rattle.rules.specs.State.{names, Running, Place, behind, gone_back, Retreating, Processes, Phase, at_rest, forward, going_back, State, turned_round}
 use Rattle.rules.specs.Branches.{Branching, keeps, starts, joins, branched}
 use Rattle.rules.specs.Forward.{Act, and_then, unless, taking}
 use Rattle.rules.specs.Backward.{Undoing, Move, cannot, alone, takes, to, move_of}

@@ -1,5 +1,5 @@
 -- What each instruction does to a process of a forward run, and the smallest cause for which it cannot be taken.
-use Rattle.std.specs.Prelude.{ℕ, suc, Bool, true, false, cond, ◌&&◌, List, [], ◌∷◌, map, length, ℤ, pos, negsuc, ◌+ℤ◌, ◌-ℤ◌, ◌*ℤ◌, Some, None, Ok, Err, Option, Result, ◌==◌, int_lt, nat_lt}
+use Rattle.std.specs.Prelude.{ℕ, suc, Bool, true, false, cond, List, [], ◌∷◌, map, length, ℤ, pos, negsuc, ◌+ℤ◌, ◌-ℤ◌, ◌*ℤ◌, Some, None, Ok, Err, Option, Result, ◌==◌, int_lt, nat_lt}
 use Rattle.std.specs.Int.Signed.{mag}
 use Rattle.std.specs.Option.{ok_or}
 use Rattle.journal.specs.declared.kind.Kind.{Kind}
@@ -11,8 +11,8 @@ use Rattle.instruction.specs.declared.instruction.Instruction.TheVariants.{Ipush
 use Rattle.script.specs.Regions.{partner}
 use Rattle.script.specs.Flow.{branches_of}
 use Rattle.rules.specs.declared.refusal.Cause.{Cause}
-use Rattle.rules.specs.declared.refusal.Cause.TheVariants.{StackShort, StackFull, OutOfRange, NoVariable, AlreadyDeclared, TooManyVariables, PathFull, WrongNames}
-use Rattle.rules.specs.Variables.{Variable, Seen, Change, leaves, sets, declares, removes, is_empty, visible, may_declare, may_remove}
+use Rattle.rules.specs.declared.refusal.Cause.TheVariants.{StackShort, StackFull, OutOfRange, NoVariable, WrongNames}
+use Rattle.rules.specs.Variables.{Seen, Change, leaves, sets, declares, removes, is_empty, visible, may_declare, may_remove}
 use Rattle.rules.specs.State.{Path, names, Running}
 use Rattle.rules.specs.Branches.{Branching, keeps, starts, joins}
 use Rattle.rules.specs.Paths.{with_name, without_name}

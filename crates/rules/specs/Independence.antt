@@ -1,14 +1,13 @@
 -- Two processes that can both go back do not stand in each other's way.
-use Rattle.std.specs.Prelude.{◌≡◌, ℕ, zero, suc, ◌≤◌, Bool, ◌≢◌, ◌⊎◌, List, [], ◌∷◌, length, ℤ, Some, None, Ok, Err, Option, Result, nat_eq}
-use Rattle.journal.specs.declared.entry.Entry.{Entry}
+use Rattle.std.specs.Prelude.{◌≡◌, ℕ, ◌≤◌, Bool, ◌≢◌, ◌⊎◌, List, [], ◌∷◌, length, Some, None, Ok, nat_eq}
 use Rattle.instruction.specs.declared.instruction.Instruction.{Instruction}
 use Rattle.instruction.specs.declared.instruction.Instruction.TheVariants.{Fork}
 use Rattle.script.specs.Scripts.{instruction_at}
 use Rattle.script.specs.Images.{Accepted}
 use Rattle.script.specs.Flow.{branches_of}
 use Rattle.rules.specs.Tables.{found}
-use Rattle.rules.specs.Variables.{Variable, same_variable, seen}
-use Rattle.rules.specs.State.{Place, behind, gone_back, Retreating, Processes, Phase, at_rest, forward, going_back, State, turned_round}
+use Rattle.rules.specs.Variables.{Variable, same_variable}
+use Rattle.rules.specs.State.{behind, Retreating, Processes, Phase, at_rest, forward, going_back, State, turned_round}
 use Rattle.rules.specs.Branches.{branch}
 use Rattle.rules.specs.Calls.{back}
 

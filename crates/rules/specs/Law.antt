@@ -1,9 +1,8 @@
 -- The law of taking back: whatever was done since loading can be taken back, exactly.
-use Rattle.std.specs.Prelude.{◌≡◌, ℕ, ◌<◌, ◌≤◌, Bool, ◌≢◌, List, [], ℤ, Ok, Err, Result}
+use Rattle.std.specs.Prelude.{◌≡◌, ℕ, ◌<◌, ◌≤◌, Bool, ◌≢◌, List, [], ℤ, Ok, Err}
 use Rattle.journal.specs.declared.entry.Entry.{Entry}
 use Rattle.rules.specs.declared.call.Call.{Call}
 use Rattle.rules.specs.declared.call.Call.TheVariants.{Back}
-use Rattle.rules.specs.declared.refusal.Refusal.{Refusal}
 use Rattle.rules.specs.declared.refusal.Refusal.TheVariants.{NothingToTakeBack, NobodyCanGo}
 use Rattle.rules.specs.State.{State, at_rest}
 use Rattle.rules.specs.Calls.{load, back}

@@ -1,5 +1,5 @@
 -- Sessions: lists of calls, the newest first, and what is seen of them.
-use Rattle.std.specs.Prelude.{ℕ, zero, suc, ◌+◌, Bool, true, false, cond, not, ◌&&◌, List, [], ◌∷◌, length, ℤ, is_some, is_ok, Option, Result, ◌==◌, nat_eq}
+use Rattle.std.specs.Prelude.{ℕ, suc, Bool, true, false, cond, not, ◌&&◌, List, [], ◌∷◌, length, ℤ, is_some, is_ok, Option, Result, ◌==◌, nat_eq}
 use Rattle.std.specs.Result.{result_unwrap_or, result_map_both}
 use Rattle.journal.specs.declared.entry.Entry.{Entry}
 use Rattle.rules.specs.declared.call.Call.{Call}

@@ -1,5 +1,5 @@
 -- The state of the machine.
-use Rattle.std.specs.Prelude.{ℕ, zero, suc, Bool, false, eqb, List, [], ◌++◌, map, ℤ}
+use Rattle.std.specs.Prelude.{ℕ, zero, suc, Bool, List, ◌++◌, map, ℤ}
 use Rattle.journal.specs.declared.entry.Entry.{Entry}
 use Rattle.instruction.specs.declared.instruction.Instruction.{Instruction}
 use Rattle.rules.specs.Variables.{Variables}
