@@ -1,4 +1,4 @@
-ghost use Rattle.std.specs.Prelude.{◌≡◌, ltb, [], ◌∷◌, length, if◌then◌else◌, nat_lt};
+ghost use Rattle.std.specs.Prelude.{◌≡◌, [], ◌∷◌, length, if◌then◌else◌, nat_lt};
 ghost use Rattle.script.specs.Frames.{opened, right_count, counted};
 ghost use Rattle.script.specs.Regions.{innermost};
 ghost use Rattle.script.specs.Fronts.{frames_of};
@@ -57,7 +57,7 @@ impl OpenFrames {
     // Opens a frame; false where as many are open as can be.
     pub(crate) fn open(&mut self, kind: FrameKind, address: u16) -> bool
         ensures answer { result ≡ nat_lt (length (frames_of self.old)) 16 }
-        ensures frames { frames_of self.new ≡ (if ltb (length (frames_of self.old)) 16 then opened kind address 0 ∷ frames_of self.old else frames_of self.old) }
+        ensures frames { frames_of self.new ≡ (if nat_lt (length (frames_of self.old)) 16 then opened kind address 0 ∷ frames_of self.old else frames_of self.old) }
     {
         if self.depth == MOST_OPEN {
             return false;
