@@ -4,8 +4,8 @@
 usage: python3 tools/respell_names.py     at the top of the repository, once, after the kit's port.py
 
 Types and modules keep their capitals, and so do the names that Rattle makes of the code (goals and steps of
-proofs). Functions of src/, strings, inputs and outputs are not touched. Where a lemma would get the name of the
-definition that it is about, it gets `_lem` behind it. Prints what it renamed. A second run changes nothing.
+proofs). Functions of src/, strings, inputs and outputs are not touched. Where a lemma would get the name of a
+definition or a field, it gets `_lem` behind it. Prints what it renamed. A second run changes nothing.
 """
 import collections
 import glob

@@ -1,4 +1,4 @@
--- Two processes that can both go back do not stand in each other's way.
+-- That two processes that can both go back do not stand in each other's way, as a statement that is not proved yet.
 use Rattle.std.specs.Prelude.{◌≡◌, ℕ, ◌≤◌, Bool, ◌≢◌, ◌⊎◌, List, [], ◌∷◌, length, Some, None, Ok, nat_eq}
 use Rattle.instruction.specs.declared.instruction.Instruction.{Instruction}
 use Rattle.instruction.specs.declared.instruction.Instruction.TheVariants.{Fork}

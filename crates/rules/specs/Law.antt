@@ -1,4 +1,4 @@
--- The law of taking back: whatever was done since loading can be taken back, exactly.
+-- The law of taking back, as a statement that is not proved yet: whatever was done since loading can be taken back, exactly.
 use Rattle.std.specs.Prelude.{◌≡◌, ℕ, ◌<◌, ◌≤◌, Bool, ◌≢◌, List, [], ℤ, Ok, Err}
 use Rattle.journal.specs.declared.entry.Entry.{Entry}
 use Rattle.rules.specs.declared.call.Call.{Call}

@@ -1,4 +1,4 @@
-// The rules of the machine, and what is proved of them.
+// The rules of the machine, as definitions, and what is wanted of them, as statements.
 #![tactic(auto)]
 
 pub mod call;
