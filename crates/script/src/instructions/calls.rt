@@ -25,6 +25,13 @@ impl Instructions {
         self.count
     }
 
+    // All of them, in reading order.
+    pub(crate) fn as_slice(&self) -> &[Instruction]
+        ensures { result.now ≡ list_of self.now }
+    {
+        &self.items[..self.count]
+    }
+
     // The one at an address from 1 to N; any other address reads as nop.
     pub(crate) fn at(&self, address: usize) -> Instruction
         ensures { result ≡ instruction_at (list_of self.now) address }

@@ -17,6 +17,13 @@ impl Script {
         self.instructions.count()
     }
 
+    // All instructions, in reading order.
+    pub fn instructions(&self) -> &[Instruction]
+        ensures { result.now ≡ instructions_of self.now }
+    {
+        self.instructions.as_slice()
+    }
+
     // The instruction at an address from 1 to N; any other address reads as nop.
     pub fn at(&self, address: usize) -> Instruction
         ensures { result ≡ instruction_at (instructions_of self.now) address }
