@@ -1,5 +1,6 @@
 // Reading and writing numbers of seven-bit groups.
-ghost use Rattle.std.specs.Prelude.{◌≡◌, ◌+◌, ◌<◌, ◌≤◌, true, length, IfOk};
+ghost use Rattle.std.specs.Prelude.{◌≡◌, ◌+◌, ◌<◌, ◌≤◌, true, length, nat_le, IfOk};
+ghost use Rattle.std.specs.List.{prefix_len};
 ghost use Rattle.varint.specs.Writings.{writing};
 ghost use Rattle.varint.specs.Readings.{scanned, number_at, WritingAt};
 ghost use Rattle.varint.specs.Written.{Written, Wrote, ReadBack};
@@ -25,41 +26,45 @@ struct Reading {
     shortest: bool,
 }
 
-const MOST_GROUPS: usize = 5;
+const MOST_LATER: usize = 4;
 
-// A value above this has no room for one group more in 32 bits.
-const MOST_BEFORE: u32 = 33_554_431;
+// How many later groups stand at the front of bytes.
+fn count_later(bytes: &[u8]) -> usize
+    ensures run { result ≡ prefix_len (λ byte. nat_le 128 byte) bytes.now }
+    ensures within { result ≤ length bytes.now }
+{
+    bytes.iter().take_while(|byte| **byte >= 128).count()
+}
 
 // The number that begins at a place, its end, and whether its writing is the shortest: which writings to take is the caller's choice.
 fn scan(bytes: &[u8], at: usize) -> Result<Reading, Fault>
     ensures answer { result ≡ scanned bytes.now at }
     ensures writing { IfOk result (λ n. (n.shortest ≡ true → WritingAt bytes.now at n.value n.end)) }
 {
-    if at >= bytes.len() {
+    let Some(&first) = bytes.get(at) else {
         return Err(Fault::Ended(bytes.len()));
-    }
-    let first = bytes[at];
-    if first >= 128 {
+    };
+    let end = at + 1 + count_later(&bytes[at + 1..]);
+    let later = &bytes[at + 1..end];
+    if first >= 128 || later.len() > MOST_LATER {
         return Err(Fault::Malformed(at));
     }
-    let mut value = u32::from(first);
-    let mut end = at + 1;
-    while end < bytes.len() && bytes[end] >= 128 {
-        if end - at >= MOST_GROUPS || value > MOST_BEFORE {
-            return Err(Fault::Malformed(at));
-        }
-        value = value * 128 + u32::from(bytes[end] - 128);
-        end += 1;
+    let mut value = u64::from(first);
+    for byte in later {
+        value = value * 128 + u64::from(*byte - 128);
     }
-    let shortest = end - at == 1 || first > 0;
+    let Ok(value) = u32::try_from(value) else {
+        return Err(Fault::Malformed(at));
+    };
     Ok(Reading {
         value,
         end,
-        shortest,
+        shortest: later.is_empty() || first > 0,
     })
 }
 
 // The number that begins at a place, and the place after it. Only its shortest writing is a number.
+// No cursor over the bytes: where it stands after a fault would be one clause more, and each reader would have to set it back.
 pub fn read(bytes: &[u8], at: usize) -> Result<(u32, usize), Fault>
     ensures answer { result ≡ number_at bytes.now at }
     ensures writing { IfOk result (λ p. WritingAt bytes.now at p.0 p.1) }
@@ -71,28 +76,17 @@ pub fn read(bytes: &[u8], at: usize) -> Result<(u32, usize), Fault>
     Ok((number.value, number.end))
 }
 
-// How many groups follow the first one in the shortest writing.
-fn later_groups(n: u32) -> usize
-    ensures { (1 + result ≡ length (writing n)) × (result ≤ 4) }
-{
-    if n < 128 {
-        0
-    } else if n < 16_384 {
-        1
-    } else if n < 2_097_152 {
-        2
-    } else if n < 268_435_456 {
-        3
-    } else {
-        4
-    }
-}
-
 // How many bytes a number takes.
 pub fn size(n: u32) -> usize
     ensures { (result ≡ length (writing n)) × (result ≤ 5) }
 {
-    1 + later_groups(n)
+    match n {
+        0..128 => 1,
+        128..16_384 => 2,
+        16_384..2_097_152 => 3,
+        2_097_152..268_435_456 => 4,
+        268_435_456.. => 5,
+    }
 }
 
 // Writes a number from a place on, and answers the place after it.
@@ -112,6 +106,7 @@ fn put(bytes: &mut [u8], at: usize, n: u32) -> usize
 }
 
 // Writes a number from a place on, and answers the place after it; where it does not fit, nothing is written.
+// No cursor here either: a refused write would have to leave it where it stood.
 pub fn write(bytes: &mut [u8], at: usize, n: u32) -> Result<usize, NoRoom>
     ensures answer { Wrote bytes.old at (writing n) result bytes.new }
     ensures back { IfOk result (λ end. ReadBack bytes.new at n end) }
