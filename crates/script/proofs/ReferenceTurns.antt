@@ -1,14 +1,8 @@
 -- The turns of judging ends and jumps.
-use Rattle.std.proofs.Common.{◌≡◌, ℕ, suc, ◌+◌, ◌-◌, ◌<◌, ◌≤◌, false, ◌&&◌, eqb, ◌⊎◌, List, length, Some, None, Ok, Err, Option, sym, ap, ◌∙◌, add-one, arith}
+use Rattle.std.proofs.Common.{◌≡◌, ℕ, suc, ◌+◌, ◌-◌, ◌<◌, ◌≤◌, List, length, Some, None, Ok, Err, Option, sym, ap, ◌∙◌, add-one, arith}
 use Rattle.instruction.specs.declared.instruction.Instruction.{Instruction}
 use Rattle.script.specs.declared.refusal.ImageRefusal.{ImageRefusal}
-use Rattle.script.specs.Roles.{role_of, arrives}
-use Rattle.script.specs.Regions.{region}
-use Rattle.script.specs.References.{label_for, wrong_reference, refused_or, references_from}
-use Rattle.script.proofs.Addresses.{at_outside}
-
-pub no_label_outside : (s : List Instruction) (a t : ℕ) → (t ≡ 0) ⊎ (length s < t) → false ≡ label_for s a t
-no_label_outside s a t o = ap (λ i. arrives (role_of i) && eqb (region s t) (region s a)) (at_outside s t o)
+use Rattle.script.specs.References.{wrong_reference, refused_or, references_from}
 
 references_next : (s : List Instruction) (a : ℕ) (o : Option ImageRefusal) → a ≤ length s → o ≡ wrong_reference s a
     → references_from s (suc (length s) - a) a ≡ refused_or o (references_from s (suc (length s) - (a + 1)) (a + 1))
