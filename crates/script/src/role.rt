@@ -1,6 +1,6 @@
 // What an instruction does to the form of a script. All rules of form go by these roles.
 ghost use Rattle.std.specs.Prelude.{◌≡◌};
-ghost use Rattle.script.specs.Roles.{role_of, frame_name, given_name, block_name, leaves, before_branch, begins_branch, after_branch, arrives, opens_procedure};
+ghost use Rattle.script.specs.Roles.{role_of, frame_name, given_name, block_name, is_named, leaves, before_branch, begins_branch, after_branch, arrives, opens_procedure};
 ghost use Rattle.script.specs.Frames.{beside_by};
 
 use instruction::instruction::Instruction;
@@ -69,14 +69,17 @@ impl Role {
         }
     }
 
-    // The name of a block.
-    pub(crate) fn block_name(self) -> Option<u8>
-        ensures { result ≡ block_name self }
+    pub(crate) fn gives(self, name: u8) -> bool
+        ensures { result ≡ is_named name (given_name self) }
     {
-        match self {
-            Role::BeginsBlock(name) => Some(name),
-            _ => None,
-        }
+        self.given_name() == Some(name)
+    }
+
+    // A block of the name.
+    pub(crate) fn is_block(self, name: u8) -> bool
+        ensures { result ≡ is_named name (block_name self) }
+    {
+        self == Role::BeginsBlock(name)
     }
 
     // A jmp or p_return: what follows is not come to from here.
