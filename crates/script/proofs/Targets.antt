@@ -15,7 +15,7 @@ use Rattle.script.specs.Regions.{region}
 use Rattle.script.specs.References.{has_block, label_for, call_from, fine_or, judged_by, reference_judged, refused_or, references_from, references_judged}
 use Rattle.script.specs.Flow.{LabelFor, CallFrom}
 use Rattle.script.proofs.Searches.{found_before}
-use Rattle.script.proofs.OpenFrames.{not_plain_is_within}
+use Rattle.script.proofs.OpenFrames.{not_plain_is_within, arrives_within}
 use Rattle.script.proofs.RoleInstructions.{instruction_by_role}
 
 -- nothing is wrong with any reference
@@ -58,7 +58,7 @@ label_for_lem s a t e =
     let p = and_parts (arrives (role_at s t)) (eqb (region s t) (region s a)) e in
     let r : role_at s t ≡ Arrives = arrives_only (role_at s t) p.0 in
     record {
-      within = not_plain_is_within s t (λ q. grind arith);
+      within = arrives_within s t p.0;
       label = instruction_by_role s t Arrives r;
       same_region = eqb-true (region s t) (region s a) p.1;
     }

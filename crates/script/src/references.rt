@@ -22,12 +22,10 @@ struct Referring<'a> {
 
 impl Referring<'_> {
     // Whether a label of its region stands at the target.
+    #[tactic(auto, using(crate::proofs::OpenFrames::arrives_within))]
     fn is_label(&self, target: usize) -> bool
         ensures { result ≡ label_for (list_of self.now.script.now) self.now.address target }
     {
-        if target == 0 || target > self.script.count() {
-            return false;
-        }
         self.script.role(target).arrives()
             && self.links.regions[target - 1] == self.links.regions[self.address - 1]
     }
