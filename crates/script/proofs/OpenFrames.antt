@@ -9,7 +9,7 @@ use Rattle.script.specs.declared.role.Role.{Role}
 use Rattle.script.specs.declared.role.Role.TheVariants.{Plain, JumpsIf, Jumps, Arrives, BeginsBlock, EndsBlock, Opens, Closes}
 use Rattle.script.specs.declared.frames.Frame.{Frame}
 use Rattle.script.specs.declared.refusal.ImageRefusal.{ImageRefusal}
-use Rattle.script.specs.Roles.{role_of, by_framing, same_kind}
+use Rattle.script.specs.Roles.{role_of, arrives, by_framing, same_kind}
 use Rattle.script.specs.Frames.{role_at, beside, fresh, opened, right_count, without, open_after, frames_after, all_closed, go_on, frames_from, frames_judged}
 use Rattle.script.specs.Regions.{or_none, open_before}
 
@@ -21,6 +21,9 @@ past_is_plain s (suc a) l = ap role_of (get_or_past s a Nop (omega arith))
 pub not_plain_is_within : (s : List Instruction) (a : ℕ) → (role_at s a ≡ Plain → ⊥) → (1 ≤ a) × (a ≤ length s)
 not_plain_is_within s zero h = absurd (h refl)
 not_plain_is_within s (suc a) h = (omega arith, ⊎_elim (λ l. absurd (h (past_is_plain s (suc a) l))) (λ l. l) (cases_lt (length s) (suc a)))
+
+pub arrives_within : (s : List Instruction) (a : ℕ) → arrives (role_at s a) ≡ true → (1 ≤ a) × (a ≤ length s)
+arrives_within s a e = not_plain_is_within s a (λ p. grind arith)
 
 -- no rule breaks at an address
 record Kept (s : List Instruction) (a : ℕ) : Type 0 where

@@ -9,7 +9,6 @@ pub mod Flow
 pub mod Held
 pub mod Fronts
 pub mod Framing
-pub mod Names
 pub mod Linking
 pub mod Stages
 pub mod Calls

@@ -1,5 +1,5 @@
 -- The rules of ends and jumps, which refer to another instruction.
-use Rattle.std.specs.Prelude.{ℕ, zero, suc, ◌+◌, Bool, cond, ◌&&◌, ◌||◌, List, length, Some, None, Ok, Err, Option, Result, ◌==◌}
+use Rattle.std.specs.Prelude.{ℕ, zero, suc, ◌+◌, Bool, cond, ◌&&◌, ◌||◌, List, length, Ok, Err, Result, ◌==◌}
 use Rattle.instruction.specs.declared.instruction.Instruction.{Instruction}
 use Rattle.script.specs.declared.role.Role.{Role}
 use Rattle.script.specs.declared.role.Role.TheVariants.{Plain, JumpsIf, Jumps, Arrives, BeginsBlock, EndsBlock, Opens, Closes}
@@ -22,31 +22,31 @@ label_for s a t = arrives (role_at s t) && region s t == region s a
 abbrev pub call_from : List Instruction → ℕ → ℕ → Bool
 call_from s a t = opens_procedure (role_at s t) && label_for s a (a + 1)
 
-abbrev pub unless : Bool → ImageRefusal → Option ImageRefusal
-unless fine refusal = cond fine None (Some refusal)
+abbrev pub fine_or : Bool → ImageRefusal → Result (Unit {0}) ImageRefusal
+fine_or fine refusal = cond fine (Ok tt) (Err refusal)
 
--- what is wrong with what an instruction refers to
-abbrev pub wrong_by : List Instruction → ℕ → Role → Option ImageRefusal
-wrong_by s a Plain = None
-wrong_by s a (JumpsIf t) = unless (label_for s a t) (WrongTarget a)
-wrong_by s a (Jumps t) = unless (label_for s a t || call_from s a t) (WrongTarget a)
-wrong_by s a Arrives = None
-wrong_by s a (BeginsBlock b) = None
-wrong_by s a (EndsBlock b) = unless (has_block s b) (EndWithoutBlock a)
-wrong_by s a (Opens kind) = None
-wrong_by s a (Closes kind) = None
+-- what is wrong with what an instruction refers to, if something is
+abbrev pub judged_by : List Instruction → ℕ → Role → Result (Unit {0}) ImageRefusal
+judged_by s a Plain = Ok tt
+judged_by s a (JumpsIf t) = fine_or (label_for s a t) (WrongTarget a)
+judged_by s a (Jumps t) = fine_or (label_for s a t || call_from s a t) (WrongTarget a)
+judged_by s a Arrives = Ok tt
+judged_by s a (BeginsBlock b) = Ok tt
+judged_by s a (EndsBlock b) = fine_or (has_block s b) (EndWithoutBlock a)
+judged_by s a (Opens kind) = Ok tt
+judged_by s a (Closes kind) = Ok tt
 
-abbrev pub wrong_reference : List Instruction → ℕ → Option ImageRefusal
-wrong_reference s a = wrong_by s a (role_at s a)
+abbrev pub reference_judged : List Instruction → ℕ → Result (Unit {0}) ImageRefusal
+reference_judged s a = judged_by s a (role_at s a)
 
-abbrev pub refused_or : Option ImageRefusal → Result (Unit {0}) ImageRefusal → Result (Unit {0}) ImageRefusal
-refused_or (Some refusal) rest = Err refusal
-refused_or None rest = rest
+abbrev pub refused_or : Result (Unit {0}) ImageRefusal → Result (Unit {0}) ImageRefusal → Result (Unit {0}) ImageRefusal
+refused_or (Err refusal) rest = Err refusal
+refused_or (Ok fine) rest = rest
 
 -- the first wrong one of the last `left` instructions, from an address on
 unfoldable pub references_from : List Instruction → ℕ → ℕ → Result (Unit {0}) ImageRefusal
 references_from s zero a = Ok tt
-references_from s (suc left) a = refused_or (wrong_reference s a) (references_from s left (suc a))
+references_from s (suc left) a = refused_or (reference_judged s a) (references_from s left (suc a))
 
 abbrev pub references_judged : List Instruction → Result (Unit {0}) ImageRefusal
 references_judged s = references_from s (length s) 1

@@ -1,19 +1,19 @@
 // What an instruction does to the form of a script. All rules of form go by these roles.
 ghost use Rattle.std.specs.Prelude.{◌≡◌};
-ghost use Rattle.script.specs.Roles.{role_of, same_kind, frame_name, given_name, block_name, leaves, before_branch, begins_branch, after_branch, arrives, opens_procedure};
+ghost use Rattle.script.specs.Roles.{role_of, frame_name, given_name, block_name, is_named, leaves, before_branch, begins_branch, after_branch, arrives, opens_procedure};
 ghost use Rattle.script.specs.Frames.{beside_by};
 
 use instruction::instruction::Instruction;
 
 // A stretch of instructions from an opener to its closer.
-#[derive(Clone, Copy)]
+#[derive(Clone, Copy, PartialEq, Eq, Debug)]
 pub(crate) enum FrameKind {
     Procedure(u8), // from proc to p_return
     Branch, // from par begin to par end
     Forked(u8), // from fork to merge
 }
 
-#[derive(Clone, Copy)]
+#[derive(Clone, Copy, PartialEq, Eq, Debug)]
 pub(crate) enum Role {
     Plain,
     JumpsIf(u16),
@@ -45,23 +45,6 @@ pub(crate) fn role_of(instruction: Instruction) -> Role
 }
 
 impl FrameKind {
-    // Name for name.
-    pub(crate) fn is(self, other: FrameKind) -> bool
-        ensures { result ≡ same_kind self other }
-    {
-        match (self, other) {
-            (FrameKind::Procedure(a), FrameKind::Procedure(b)) => a == b,
-            (FrameKind::Procedure(_), FrameKind::Branch) => false,
-            (FrameKind::Procedure(_), FrameKind::Forked(_)) => false,
-            (FrameKind::Branch, FrameKind::Procedure(_)) => false,
-            (FrameKind::Branch, FrameKind::Branch) => true,
-            (FrameKind::Branch, FrameKind::Forked(_)) => false,
-            (FrameKind::Forked(_), FrameKind::Procedure(_)) => false,
-            (FrameKind::Forked(_), FrameKind::Branch) => false,
-            (FrameKind::Forked(a), FrameKind::Forked(b)) => a == b,
-        }
-    }
-
     // The name that its opener gives, if it gives one.
     pub(crate) fn name(self) -> Option<u8>
         ensures { result ≡ frame_name self }
@@ -86,14 +69,17 @@ impl Role {
         }
     }
 
-    // The name of a block.
-    pub(crate) fn block_name(self) -> Option<u8>
-        ensures { result ≡ block_name self }
+    pub(crate) fn gives(self, name: u8) -> bool
+        ensures { result ≡ is_named name (given_name self) }
     {
-        match self {
-            Role::BeginsBlock(name) => Some(name),
-            _ => None,
-        }
+        self.given_name() == Some(name)
+    }
+
+    // A block of the name.
+    pub(crate) fn is_block(self, name: u8) -> bool
+        ensures { result ≡ is_named name (block_name self) }
+    {
+        self == Role::BeginsBlock(name)
     }
 
     // A jmp or p_return: what follows is not come to from here.

@@ -80,7 +80,7 @@ impl OpenFrames {
             return None;
         }
         let frame = self.frames[self.depth - 1];
-        if !kind.is(frame.kind) || !kind.has_right_count(frame.branches) {
+        if kind != frame.kind || !kind.has_right_count(frame.branches) {
             return None;
         }
         self.depth -= 1;
