@@ -1,7 +1,7 @@
 // The instructions of a script.
 
 // What `op` does with the two numbers l and r that it pops.
-#[derive(Clone, Copy)]
+#[derive(Clone, Copy, PartialEq, Eq, Debug)]
 pub enum Operator {
     Add, // l + r
     Multiply, // l * r
@@ -11,7 +11,7 @@ pub enum Operator {
 }
 
 // A variable is 0 to 63, a name 1 to 255, and a target the address of an instruction.
-#[derive(Clone, Copy)]
+#[derive(Clone, Copy, PartialEq, Eq, Debug)]
 pub enum Instruction {
     Ipush(i32), // pushes the number
     Load(u8), // pushes the variable's value

@@ -4,7 +4,7 @@ ghost use Rattle.instruction.specs.Mirrors.{mirror_of, mirror_code_and_operand};
 
 use crate::instruction::Instruction;
 
-#[derive(Clone, Copy)]
+#[derive(Clone, Copy, PartialEq, Eq, Debug)]
 pub enum MirrorInstruction {
     Rjmp, // goes to where a label was come to from
     Restore(u8), // puts a variable's old value back
@@ -50,7 +50,7 @@ impl Instruction {
 }
 
 impl MirrorInstruction {
-    // The code and the operand that stand for it in an image.
+    // The code and the operand that stand for it in an image. `From` would not say which of the two is which.
     pub fn code_and_operand(self) -> (u32, u32)
         ensures { result ≡ mirror_code_and_operand self }
     {

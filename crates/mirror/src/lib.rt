@@ -4,22 +4,22 @@
 ghost use Rattle.std.specs.Prelude.{◌≡◌, ◌+◌, ◌≤◌, length};
 ghost use Rattle.varint.specs.Writings.{writing};
 ghost use Rattle.varint.specs.Written.{Wrote};
-ghost use Rattle.script.specs.Scripts.{instruction_at};
 ghost use Rattle.script.specs.Calls.{instructions_of};
 ghost use Rattle.script.specs.Images.{pair_bytes};
 ghost use Rattle.mirror.specs.Mirrored.{mirror_pair, mirror_bytes, mirror_image};
 
+use instruction::instruction::Instruction;
 use refusal::MirrorRefusal;
 use script::script::Script;
 use varint::number::{NoRoom, size, write};
 
 pub mod refusal;
 
-// The code and the operand of the mirror of the instruction at an address.
-fn mirror_pair(script: &Script, address: usize) -> (u32, u32)
-    ensures { result ≡ mirror_pair (instruction_at (instructions_of script.now) address) }
+// The code and the operand of an instruction's mirror.
+fn mirror_pair(instruction: Instruction) -> (u32, u32)
+    ensures { result ≡ mirror_pair instruction }
 {
-    script.at(address).mirror().code_and_operand()
+    instruction.mirror().code_and_operand()
 }
 
 fn pair_size(pair: (u32, u32)) -> usize
@@ -30,22 +30,24 @@ fn pair_size(pair: (u32, u32)) -> usize
 }
 
 // How many bytes the codes and operands of the mirrors take: all of the mirrored script but its count.
-fn pairs_size(script: &Script) -> usize
-    ensures exact { length (mirror_image (instructions_of script.now)) ≡ length (writing (length (instructions_of script.now))) + result }
+#[tactic(auto, using(crate::proofs::Mirroring::length_bytes))]
+fn pairs_size(instructions: &[Instruction]) -> usize
+    requires { length instructions.now ≤ 1024 }
+    ensures exact { result ≡ length (mirror_bytes instructions.now) }
     ensures few { result ≤ 10240 }
 {
-    let mut bytes = 0;
-    for address in (1..=script.count()).rev() {
-        bytes += pair_size(mirror_pair(script, address));
-    }
-    bytes
+    instructions
+        .iter()
+        .map(|instruction| pair_size(mirror_pair(*instruction)))
+        .sum()
 }
 
 // How many bytes the mirrored script takes.
+#[tactic(auto, using(crate::proofs::Mirroring::length_image))]
 pub fn mirror_size(script: &Script) -> usize
     ensures { result ≡ length (mirror_image (instructions_of script.now)) }
 {
-    size(script.count() as u32) + pairs_size(script)
+    size(script.count() as u32) + pairs_size(script.instructions())
 }
 
 // Writes a code and an operand from a place on, and answers the place after them.
@@ -63,8 +65,8 @@ fn put_pairs(script: &Script, bytes: &mut [u8], at: usize) -> Result<usize, NoRo
     ensures { Wrote bytes.old at (mirror_bytes (instructions_of script.now)) result bytes.new }
 {
     let mut end = at;
-    for address in (1..=script.count()).rev() {
-        end = put_pair(bytes, end, mirror_pair(script, address))?;
+    for instruction in script.instructions().iter().rev() {
+        end = put_pair(bytes, end, mirror_pair(*instruction))?;
     }
     Ok(end)
 }

@@ -1,18 +1,11 @@
--- One instruction more.
-use Rattle.std.proofs.Common.{length, sym, ap, arith}
-use Rattle.script.specs.Calls.{instructions_of}
-use Rattle.mirror.proofs.Mirroring.{length_image, no_bytes_behind_the_last, all_bytes_behind_none, size_one_more}
+-- At most 1024 numbers, each at most 10.
+use Rattle.std.proofs.Common.{rules, tests, arith}
+use Rattle.std.proofs.lemmas.Iterator.{YieldsList-from_slice}
+use Rattle.std.proofs.lemmas.Iterator.Adapters.{fits_from_length, at_most_from_yields_List}
 use Rattle.mirror.proofs.pairs_size.Goals as goal
 
-pub loop-address-init : goal.loop-address-init
-loop-address-init c = (ap length (sym (no_bytes_behind_the_last (instructions_of c.args.script.now) c.count-address.result c.count-address.ensures.count)), omega arith)
-
-pub loop-address-preserved : goal.loop-address-preserved
-loop-address-preserved c =
-    let more = size_one_more (instructions_of c.args.script.now) c.loop-address.address c.mirror_pair.result (omega arith) (omega arith) c.mirror_pair.ensures in
-    (omega arith, omega arith)
-
-pub returns : goal.returns
-returns c =
-    let s = instructions_of c.args.script.now in
-    record { exact = omega (arith, length_image s, ap length (all_bytes_behind_none s c.loop-address.address c.loop-address-test.false)); few = omega arith }
+pub returns-clause-few : goal.returns-clause-few
+returns-clause-few c =
+    let run = c.sum.ensures.runs tt in
+    let fits = fits_from_length _ _ 1024 10241 (at_most_from_yields_List (YieldsList-from_slice c.args.instructions.now cc) c.requires) c.map.ensures.closure (omega arith) (λ x r q k. search (rules, tests)) run.0 run.0.seen run.1 in
+    omega (arith, fits)

@@ -1,29 +1,20 @@
 -- One instruction more finds room.
-use Rattle.std.proofs.Common.{subst, arith}
-use Rattle.varint.specs.Written.{Written}
+use Rattle.std.proofs.Common.{arith}
 use Rattle.script.specs.Calls.{instructions_of}
-use Rattle.mirror.proofs.Behind.{written_none}
-use Rattle.mirror.proofs.Mirroring.{no_bytes_behind_the_last, all_bytes_behind_none, room_for_one_more, written_one_more}
+use Rattle.mirror.proofs.Mirroring.{turn_from_the_last, room_for_one_more, written_one_more}
 use Rattle.mirror.proofs.put_pairs.Goals as goal
-
-pub loop-address-init : goal.loop-address-init
-loop-address-init c = written_none _ _ _ (no_bytes_behind_the_last _ _ c.count-address.ensures.count) (omega arith)
 
 pub put_pair-requires : goal.put_pair-requires
 put_pair-requires c =
-    let room = room_for_one_more (instructions_of c.args.script.now) c.loop-address.address c.mirror_pair.result (omega arith) (omega arith) c.mirror_pair.ensures in
-    omega arith
+    let turn = turn_from_the_last _ _ _ (instructions_of c.args.script.now) _ _ _ (cc) c.loop-instruction.yielded_by c.in-Some.is c.next.ensures.steps in
+    omega (arith, room_for_one_more _ _ _ _ turn c.mirror_pair.ensures, c.loop-instruction.invariant.ends, c.requires)
 
 pub returns-in_err-end : goal.returns-in_err-end
 returns-in_err-end c =
-    let room = room_for_one_more (instructions_of c.args.script.now) c.loop-address.address c.mirror_pair.result (omega arith) (omega arith) c.mirror_pair.ensures in
-    absurd (omega (arith, c.in_err-end.ensures.0))
+    let turn = turn_from_the_last _ _ _ (instructions_of c.args.script.now) _ _ _ (cc) c.loop-instruction.yielded_by c.in-Some.is c.next.ensures.steps in
+    absurd (omega (arith, room_for_one_more _ _ _ _ turn c.mirror_pair.ensures, c.in_err-end.ensures.0, c.loop-instruction.invariant.ends, c.requires))
 
-pub loop-address-preserved : goal.loop-address-preserved
-loop-address-preserved c =
-    written_one_more (instructions_of c.args.script.now) c.loop-address.address c.mirror_pair.result (omega arith) (omega arith) c.mirror_pair.ensures
-    _ _ _ _ _ _ c.loop-address.invariant c.in_ok-end.ensures (omega arith)
-
-pub returns : goal.returns
-returns c =
-    subst (λ t. Written c.args.bytes.now c.args.at t c.loop-address.end c.loop-address.bytes) (all_bytes_behind_none (instructions_of c.args.script.now) c.loop-address.address c.loop-address-test.false) c.loop-address.invariant
+pub loop-instruction-preserved : goal.loop-instruction-preserved
+loop-instruction-preserved c =
+    let turn = turn_from_the_last _ _ _ (instructions_of c.args.script.now) _ _ _ (cc) c.loop-instruction.yielded_by c.in-Some.is c.next.ensures.steps in
+    written_one_more _ _ _ _ turn c.mirror_pair.ensures _ _ _ _ _ _ c.loop-instruction.invariant c.in_ok-end.ensures (omega arith)
