@@ -1,6 +1,5 @@
 // Examples of what is shown.
 use crate::line::Line;
-use crate::refusal::Refusal;
 use instruction::instruction::{Instruction, Operator};
 use instruction::mirror::MirrorInstruction;
 use script::refusal::ImageRefusal;
@@ -48,7 +47,7 @@ fn a_refusal_tells_its_place_or_address(rt: HostRuntime) -> Result<(), Fail> {
         ),
     ];
     for (refusal, text) in table {
-        assert_eq!(rt; Refusal { refusal }.to_string(rt.alloc())?.as_str(), text);
+        assert_eq!(rt; refusal.to_string(rt.alloc())?.as_str(), text);
     }
     Ok(())
 }
