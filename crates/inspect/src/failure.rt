@@ -4,9 +4,7 @@ ghost use Rattle.inspect.specs.declared.failure.Failure.TheVariants.{Damaged, Ou
 
 use journal::refusal::{LayRefusal, Refused};
 use program_input::InputFailure;
-use report::refusal::Refusal;
 use std::alloc::AllocError;
-use std::fmt::Display;
 use std::{fmt, io};
 
 pub const USAGE: &str = "usage: inspect [FILE]\n\
@@ -53,7 +51,7 @@ impl fmt::Display for Failure {
     fn fmt<W: fmt::Write>(&self, f: &mut fmt::Formatter<W>) -> fmt::Result {
         match self {
             Failure::Input(failure) => write!(f, "{failure}"),
-            Failure::Damaged(refusal) => Refusal { refusal: *refusal }.fmt(f),
+            Failure::Damaged(refusal) => write!(f, "{refusal}"),
             Failure::System(error) => write!(f, "{error}"),
             Failure::OutOfMemory => f.write_str("out of memory"),
         }

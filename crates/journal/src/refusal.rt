@@ -1,7 +1,10 @@
 // Why a journal cannot be laid.
-ghost use Rattle.std.specs.Prelude.{◌≡◌};
+ghost use Rattle.std.specs.Prelude.{◌≡◌, Some};
 ghost use Rattle.journal.specs.Refusals.{told, raised};
+ghost use Rattle.journal.specs.RefusalWords.{unit_name, reason_words, refusal_text};
 
+use std::error::Error;
+use std::fmt;
 use varint::number::Fault;
 
 #[derive(Clone, Copy, PartialEq, Eq, Debug)]
@@ -28,7 +31,42 @@ impl LayRefusal {
             LayRefusal::EntryBeneath => (14, 0),
         }
     }
+
+    // What the place counts.
+    fn unit(self) -> &'static str
+        ensures { result.now ≡ unit_name self }
+    {
+        match self {
+            LayRefusal::EntryBeneath => "",
+            _ => "byte ",
+        }
+    }
+
+    fn reason(self) -> &'static str
+        ensures { result.now ≡ reason_words self }
+    {
+        match self {
+            LayRefusal::WrongNumber(_) => "no valid part of an entry begins here",
+            LayRefusal::MissingNumber(_) => "the used bytes end within an entry",
+            LayRefusal::UsedBeyondEnd(_) => "more bytes are said to be used than there are",
+            LayRefusal::EntryBeneath => "there is an entry beneath",
+        }
+    }
 }
+
+// Its number comes first.
+impl fmt::Display for LayRefusal {
+    ghost output = { λ refusal. Some (refusal_text refusal) };
+
+    fn fmt<W: fmt::Write>(&self, f: &mut fmt::Formatter<W>) -> fmt::Result {
+        let (number, place) = self.number_and_place();
+        let unit = self.unit();
+        let reason = self.reason();
+        write!(f, "{number} at {unit}{place}: {reason}")
+    }
+}
+
+impl Error for LayRefusal {}
 
 // A fault of a number in a journal's bytes; its place is kept.
 impl From<Fault> for LayRefusal {

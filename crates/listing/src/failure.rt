@@ -1,9 +1,7 @@
 // Why there is nothing to show.
 use program_input::InputFailure;
 use script::refusal::ImageRefusal;
-use script_words::refusal::Refusal;
 use std::alloc::AllocError;
-use std::fmt::Display;
 use std::{fmt, io};
 
 pub const USAGE: &str = "usage: listing [FILE]\n\
@@ -46,7 +44,7 @@ impl fmt::Display for Failure {
     fn fmt<W: fmt::Write>(&self, f: &mut fmt::Formatter<W>) -> fmt::Result {
         match self {
             Failure::Input(failure) => write!(f, "{failure}"),
-            Failure::Refused(refusal) => Refusal { refusal: *refusal }.fmt(f),
+            Failure::Refused(refusal) => write!(f, "{refusal}"),
             Failure::System(error) => write!(f, "{error}"),
             Failure::OutOfMemory => f.write_str("out of memory"),
         }

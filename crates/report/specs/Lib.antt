@@ -1,3 +1,2 @@
 pub mod Words
 pub mod Numbering
-pub mod RefusalWords

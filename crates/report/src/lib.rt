@@ -3,6 +3,5 @@
 
 pub mod line;
 pub mod owner;
-pub mod refusal;
 #[cfg(test)]
 mod tests;

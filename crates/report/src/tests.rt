@@ -1,6 +1,5 @@
 // Examples of what is shown.
 use crate::line::Line;
-use crate::refusal::Refusal;
 use journal::entry::Entry;
 use journal::kind::Kind;
 use journal::refusal::LayRefusal;
@@ -41,9 +40,7 @@ fn a_forged_number_is_told_aside(rt: HostRuntime) -> Result<(), Fail> {
 
 #[test]
 fn a_refusal_tells_its_place(rt: HostRuntime) -> Result<(), Fail> {
-    let refusal = Refusal {
-        refusal: LayRefusal::MissingNumber(7),
-    };
+    let refusal = LayRefusal::MissingNumber(7);
     assert_eq!(rt;
         refusal.to_string(rt.alloc())?.as_str(),
         "14 at byte 7: the used bytes end within an entry"

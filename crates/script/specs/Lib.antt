@@ -4,6 +4,7 @@ pub mod Frames
 pub mod Regions
 pub mod References
 pub mod Refusals
+pub mod RefusalWords
 pub mod Images
 pub mod Flow
 pub mod Held

@@ -1,7 +1,10 @@
 // Why an image is no script.
-ghost use Rattle.std.specs.Prelude.{◌≡◌};
+ghost use Rattle.std.specs.Prelude.{◌≡◌, Some};
 ghost use Rattle.script.specs.Refusals.{told, raised};
+ghost use Rattle.script.specs.RefusalWords.{unit_name, reason_words, refusal_text};
 
+use std::error::Error;
+use std::fmt;
 use varint::number::Fault;
 
 #[derive(Clone, Copy, PartialEq, Eq, Debug)]
@@ -40,7 +43,48 @@ impl ImageRefusal {
             ImageRefusal::WrongTarget(address) => (4, address),
         }
     }
+
+    // What the position counts.
+    fn unit(self) -> &'static str
+        ensures { result.now ≡ unit_name self }
+    {
+        match self {
+            ImageRefusal::NoNumber(_) | ImageRefusal::EndsEarly(_) | ImageRefusal::GoesOn(_) => {
+                "byte"
+            }
+            _ => "address",
+        }
+    }
+
+    fn reason(self) -> &'static str
+        ensures { result.now ≡ reason_words self }
+    {
+        match self {
+            ImageRefusal::NoNumber(_) => "no number begins here",
+            ImageRefusal::EndsEarly(_) => "the bytes end before the last operand",
+            ImageRefusal::GoesOn(_) => "bytes follow the last operand",
+            ImageRefusal::WrongCount => "the count of instructions is not 1 to 1024",
+            ImageRefusal::WrongInstruction(_) => "no instruction has this code and operand",
+            ImageRefusal::BrokenFrame(_) => "a rule of names or frames is broken",
+            ImageRefusal::EndWithoutBlock(_) => "no block has the name of this end",
+            ImageRefusal::WrongTarget(_) => "this jump goes where it may not",
+        }
+    }
 }
+
+// Its number comes first.
+impl fmt::Display for ImageRefusal {
+    ghost output = { λ refusal. Some (refusal_text refusal) };
+
+    fn fmt<W: fmt::Write>(&self, f: &mut fmt::Formatter<W>) -> fmt::Result {
+        let (number, position) = self.number_and_position();
+        let unit = self.unit();
+        let reason = self.reason();
+        write!(f, "{number} at {unit} {position}: {reason}")
+    }
+}
+
+impl Error for ImageRefusal {}
 
 // A fault of a number in an image; its place is kept.
 impl From<Fault> for ImageRefusal {

@@ -1,51 +1,23 @@
--- One line more.
-use Rattle.std.proofs.Common.{◌≡◌, ℕ, suc, ◌+◌, ◌-◌, ◌<◌, ◌≤◌, List, [], ◌∷◌, ◌++◌, reverse, length, get_or, take, sym, ap, ◌∙◌, add-one, arith}
-use Rattle.std.proofs.lemmas.List.{take_more, take_all, length-take-le, length-reverse, get_or-map, get_or-reverse}
-use Rattle.instruction.specs.declared.instruction.Instruction.{Instruction}
-use Rattle.instruction.specs.declared.instruction.Instruction.TheVariants.{Nop}
-use Rattle.instruction.specs.declared.mirror.MirrorInstruction.TheVariants as mirrored
-use Rattle.instruction.specs.Mirrors.{mirror_of, mirrors_of}
-use Rattle.script.specs.Scripts.{instruction_at}
-use Rattle.script_words.specs.Numbering.{numbered_from}
+-- One line more, and the lines of all that an iterator gives.
+use Rattle.std.proofs.Common.{◌≡◌, ℕ, suc, ◌+◌, List, [], ◌∷◌, ◌++◌, length, IfOk, Option, Result, Vec, sym, ap, ◌∙◌, arith}
+use Rattle.std.proofs.lemmas.List.{map-id}
+use Rattle.std.proofs.lemmas.Iterator.{YieldsList, items_from_drains}
+use Rattle.std.proofs.lemmas.Result.{IfOk-weaker}
+use Rattle.std.specs.Iterator.{Drains}
+use Rattle.script_words.specs.declared.line.Line.{Line}
+use Rattle.script_words.specs.Numbering.{numbered_from, lines_of}
 
--- the lines of the first k elements of a list of n: at last they are all
-pub record LinesSoFar {X Y : Type 0} (line : ℕ → X → Y) (xs : List X) (n k : ℕ) (done : List Y) : Type 0 where
-  pub first : done ≡ numbered_from line 1 (take k xs)
-  pub whole : n ≤ k → done ≡ numbered_from line 1 xs
+numbered_one_behind : {X Y : Type 0} (line : ℕ → X → Y) (p : ℕ) (xs : List X) (x : X) → numbered_from line p (xs ++ x ∷ []) ≡ numbered_from line p xs ++ line (p + length xs) x ∷ []
+numbered_one_behind line p [] x = ap (λ n. line n x ∷ []) (omega arith)
+numbered_one_behind line p (y ∷ xs) x =
+    let e : suc p + length xs ≡ p + length (y ∷ xs) = omega arith in
+    ap (λ l. line p y ∷ l) (numbered_one_behind line (suc p) xs x ∙ ap (λ n. numbered_from line (suc p) xs ++ line n x ∷ []) e)
 
-module _ {X Y : Type 0} (line : ℕ → X → Y) where
-  numbered_one_behind : (p : ℕ) (xs : List X) (x : X) → numbered_from line p (xs ++ x ∷ []) ≡ numbered_from line p xs ++ line (p + length xs) x ∷ []
-  numbered_one_behind p [] x = ap (λ n. line n x ∷ []) (omega arith)
-  numbered_one_behind p (y ∷ xs) x =
-      let e : suc p + length xs ≡ p + length (y ∷ xs) = omega arith in
-      ap (λ l. line p y ∷ l) (numbered_one_behind (suc p) xs x ∙ ap (λ n. numbered_from line (suc p) xs ++ line n x ∷ []) e)
+pub line_goes_behind : {I : Type 0} (s : List I) (i : I) (done more : List (Line I)) (before : ℕ) → done ≡ lines_of s → before ≡ length s → more ≡ done ++ record { address = before + 1; instruction = i } ∷ [] → more ≡ lines_of (s ++ i ∷ [])
+line_goes_behind {I} s i done more before shown counted behind =
+    let line : ℕ → I → Line I = λ n x. record { address = n; instruction = x } in
+    let next : before + 1 ≡ 1 + length s = omega arith in
+    behind ∙ ap (λ l. l ++ line (before + 1) i ∷ []) shown ∙ ap (λ n. lines_of s ++ line n i ∷ []) next ∙ sym (numbered_one_behind line 1 s i)
 
-  module _ (xs : List X) (n : ℕ) (size : length xs ≡ n) where
-    lines_so_far : (k : ℕ) (done : List Y) → done ≡ numbered_from line 1 (take k xs) → LinesSoFar line xs n k done
-    lines_so_far k done e = record { first = e; whole = λ h. e ∙ ap (numbered_from line 1) (take_all k xs (omega arith)) }
-
-    pub no_line_stands : (done : List Y) → done ≡ [] → LinesSoFar line xs n 0 done
-    no_line_stands done e = lines_so_far 0 done e
-
-    pub next_line_goes_behind : (k : ℕ) (x d : X) (done more : List Y) → k < n → x ≡ get_or xs k d → LinesSoFar line xs n k done → more ≡ done ++ line (k + 1) x ∷ [] → LinesSoFar line xs n (k + 1) more
-    next_line_goes_behind k x d done more h here so_far behind =
-        let position : k + 1 ≡ 1 + length (take k xs) = omega (arith, length-take-le k xs (omega arith)) in
-        lines_so_far (k + 1) more (
-        behind
-        ∙ ap (λ l. l ++ line (k + 1) x ∷ []) so_far.first
-        ∙ ap (λ p. numbered_from line 1 (take k xs) ++ line p x ∷ []) position
-        ∙ sym (numbered_one_behind 1 (take k xs) x)
-        ∙ ap (λ y. numbered_from line 1 (take k xs ++ y ∷ [])) here
-        ∙ sym (ap (numbered_from line 1) (take_more xs k d (omega arith)))
-        )
-
-pub at_the_next_address : (s : List Instruction) (k : ℕ) → instruction_at s (k + 1) ≡ get_or s k Nop
-at_the_next_address s k = ap (instruction_at s) (add-one k)
-
--- from the last down
-pub mirror_at_the_next_place : (s : List Instruction) (n k : ℕ) → n ≡ length s → k < n → mirror_of (instruction_at s (n - k)) ≡ get_or (mirrors_of s) k mirrored.Nop
-mirror_at_the_next_place s n k count h =
-    let address : n - k ≡ suc (length s - 1 - k) = omega arith in
-    ap (λ a. mirror_of (instruction_at s a)) address
-    ∙ ap mirror_of (sym (get_or-reverse s k Nop (omega arith)))
-    ∙ sym (get_or-map mirror_of (reverse s) k Nop mirrored.Nop (omega (arith, length-reverse s)))
+pub all_in_lines : {S I Z E : Type 0} {steps : S → Option I → S → Type 0} {s : S} {all : List I} (r : Result (Vec (Line I) Z) E) → IfOk r (λ v. (given : List I) × Drains steps s given × (v.items ≡ lines_of given)) → YieldsList steps (λ x. x) s all → IfOk r (λ v. v.items ≡ lines_of all)
+all_in_lines r shown yields = IfOk-weaker r _ _ (λ v h. h.2 ∙ ap lines_of (sym (map-id h.0) ∙ items_from_drains h.0 (h.1.1.0, h.1.1.1, λ _. (h.1.0, h.1.1.2)) yields)) shown

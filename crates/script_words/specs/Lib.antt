@@ -1,4 +1,3 @@
 pub mod Operands
 pub mod Words
 pub mod Numbering
-pub mod RefusalWords

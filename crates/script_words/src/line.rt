@@ -1,6 +1,8 @@
 // The lines of a script.
-ghost use Rattle.std.specs.Prelude.{◌≡◌, IfOk, Some};
+ghost use Rattle.std.specs.Prelude.{◌≡◌, ℕ, List, IfOk, Some};
+ghost use Rattle.std.specs.Iterator.{Drains, IsFinite};
 ghost use Rattle.script.specs.Calls.{instructions_of};
+ghost use Rattle.script_words.specs.declared.operand.Operand.{Operand};
 ghost use Rattle.script_words.specs.Numbering.{lines_of};
 ghost use Rattle.script_words.specs.Words.{instruction_name, operand_of, line_text};
 
@@ -10,21 +12,39 @@ use script::script::Script;
 use std::alloc::{AllocError, Global};
 use std::fmt;
 
-// An instruction and its address.
-#[derive(Clone, Copy)]
-pub struct Line {
-    pub address: usize,
-    pub instruction: Instruction,
+// What a line shows: it has a name, and an operand stands behind it.
+pub trait Listed: Copy {
+    ghost name: { Self → List ℕ };
+
+    ghost operand: { Self → Operand };
+
+    fn name(self) -> &'static str
+        ensures { result.now ≡ name self };
+
+    fn operand(self) -> Operand
+        ensures { result ≡ operand self };
 }
 
-// The lines of a script, from address 1 on.
-pub fn lines(heap: Global, script: &Script) -> Result<Vec<Line>, AllocError>
-    ensures { IfOk result (λ v. v.items ≡ lines_of (instructions_of script.now)) }
+// An instruction and its address, in a script or in a mirrored script.
+#[derive(Clone, Copy, PartialEq, Eq, Debug)]
+pub struct Line<I> {
+    pub address: usize,
+    pub instruction: I,
+}
+
+// A line for each instruction, from address 1 on.
+#[tactic(auto, using(crate::proofs::Numbering::line_goes_behind))]
+pub(crate) fn numbered<I: Copy, T: Iterator<Item = I> + Drop>(
+    heap: Global,
+    instructions: T,
+) -> Result<Vec<Line<I>>, AllocError>
+    requires can { T.can_next instructions }
+    requires ends { IsFinite (T.remaining instructions) }
+    ensures { IfOk result (λ v. (all : List I) × Drains T.next_gives instructions all × (v.items ≡ lines_of all)) }
 {
     let mut lines = Vec::new(heap);
-    for before in 0..script.count() {
-        let address = before + 1;
-        let instruction = script.at(address);
+    for instruction in instructions {
+        let address = lines.len() + 1;
         lines.push(Line {
             address,
             instruction,
@@ -33,60 +53,71 @@ pub fn lines(heap: Global, script: &Script) -> Result<Vec<Line>, AllocError>
     Ok(lines)
 }
 
-impl fmt::Display for Line {
-    ghost output = { λ line. Some (line_text line.address (instruction_name line.instruction) (operand_of line.instruction)) };
+// The lines of a script.
+pub fn lines(heap: Global, script: &Script) -> Result<Vec<Line<Instruction>>, AllocError>
+    ensures { IfOk result (λ v. v.items ≡ lines_of (instructions_of script.now)) }
+{
+    numbered(heap, script.instructions().iter().copied())
+}
+
+impl<I: Listed> fmt::Display for Line<I> {
+    ghost output = { λ line. Some (line_text line.address (I.name line.instruction) (I.operand line.instruction)) };
 
     fn fmt<W: fmt::Write>(&self, f: &mut fmt::Formatter<W>) -> fmt::Result {
         let address = self.address;
-        let name = instruction_name(self.instruction);
-        let operand = operand_of(self.instruction);
+        let name = self.instruction.name();
+        let operand = self.instruction.operand();
         write!(f, "{address}  {name}{operand}")
     }
 }
 
-fn instruction_name(instruction: Instruction) -> &'static str
-    ensures { result.now ≡ instruction_name instruction }
-{
-    match instruction {
-        Instruction::Ipush(_) => "ipush",
-        Instruction::Load(_) => "load",
-        Instruction::Store(_) => "store",
-        Instruction::Jpc(_) => "jpc",
-        Instruction::Jmp(_) => "jmp",
-        Instruction::Op(_) => "op",
-        Instruction::Label => "label",
-        Instruction::ParBegin | Instruction::ParEnd => "par",
-        Instruction::Alloc(_) => "alloc",
-        Instruction::Free(_) => "free",
-        Instruction::Proc(_) => "proc",
-        Instruction::PReturn(_) => "p_return",
-        Instruction::Block(_) => "block",
-        Instruction::End(_) => "end",
-        Instruction::Fork(_) => "fork",
-        Instruction::Merge(_) => "merge",
-        Instruction::Nop => "nop",
-    }
-}
+impl Listed for Instruction {
+    ghost name = { instruction_name };
 
-fn operand_of(instruction: Instruction) -> Operand
-    ensures { result ≡ operand_of instruction }
-{
-    match instruction {
-        Instruction::Ipush(number) => Operand::Number(number),
-        Instruction::Jpc(target) | Instruction::Jmp(target) => Operand::Number(i32::from(target)),
-        Instruction::Op(operator) => Operand::Operation(operator),
-        Instruction::ParBegin => Operand::Number(0),
-        Instruction::ParEnd => Operand::Number(1),
-        Instruction::Load(variable)
-        | Instruction::Store(variable)
-        | Instruction::Alloc(variable)
-        | Instruction::Free(variable) => Operand::Number(i32::from(variable)),
-        Instruction::Proc(name)
-        | Instruction::PReturn(name)
-        | Instruction::Block(name)
-        | Instruction::End(name)
-        | Instruction::Fork(name)
-        | Instruction::Merge(name) => Operand::Number(i32::from(name)),
-        Instruction::Label | Instruction::Nop => Operand::Absent,
+    ghost operand = { operand_of };
+
+    fn name(self) -> &'static str {
+        match self {
+            Instruction::Ipush(_) => "ipush",
+            Instruction::Load(_) => "load",
+            Instruction::Store(_) => "store",
+            Instruction::Jpc(_) => "jpc",
+            Instruction::Jmp(_) => "jmp",
+            Instruction::Op(_) => "op",
+            Instruction::Label => "label",
+            Instruction::ParBegin | Instruction::ParEnd => "par",
+            Instruction::Alloc(_) => "alloc",
+            Instruction::Free(_) => "free",
+            Instruction::Proc(_) => "proc",
+            Instruction::PReturn(_) => "p_return",
+            Instruction::Block(_) => "block",
+            Instruction::End(_) => "end",
+            Instruction::Fork(_) => "fork",
+            Instruction::Merge(_) => "merge",
+            Instruction::Nop => "nop",
+        }
+    }
+
+    fn operand(self) -> Operand {
+        match self {
+            Instruction::Ipush(number) => Operand::Number(number),
+            Instruction::Jpc(target) | Instruction::Jmp(target) => {
+                Operand::Number(i32::from(target))
+            }
+            Instruction::Op(operator) => Operand::Operation(operator),
+            Instruction::ParBegin => Operand::Number(0),
+            Instruction::ParEnd => Operand::Number(1),
+            Instruction::Load(variable)
+            | Instruction::Store(variable)
+            | Instruction::Alloc(variable)
+            | Instruction::Free(variable) => Operand::Number(i32::from(variable)),
+            Instruction::Proc(name)
+            | Instruction::PReturn(name)
+            | Instruction::Block(name)
+            | Instruction::End(name)
+            | Instruction::Fork(name)
+            | Instruction::Merge(name) => Operand::Number(i32::from(name)),
+            Instruction::Label | Instruction::Nop => Operand::Absent,
+        }
     }
 }

@@ -1,7 +1,5 @@
 // Examples of what is shown.
 use crate::line::Line;
-use crate::mirror_line::MirrorLine;
-use crate::refusal::Refusal;
 use instruction::instruction::{Instruction, Operator};
 use instruction::mirror::MirrorInstruction;
 use script::refusal::ImageRefusal;
@@ -28,8 +26,8 @@ fn an_instruction_tells_its_operand(rt: HostRuntime) -> Result<(), Fail> {
 
 #[test]
 fn a_mirrored_instruction_tells_its_operand(rt: HostRuntime) -> Result<(), Fail> {
-    let line = MirrorLine {
-        place: 2,
+    let line = Line {
+        address: 2,
         instruction: MirrorInstruction::RAlloc(40),
     };
     assert_eq!(rt; line.to_string(rt.alloc())?.as_str(), "2  r_alloc 40");
@@ -49,7 +47,7 @@ fn a_refusal_tells_its_place_or_address(rt: HostRuntime) -> Result<(), Fail> {
         ),
     ];
     for (refusal, text) in table {
-        assert_eq!(rt; Refusal { refusal }.to_string(rt.alloc())?.as_str(), text);
+        assert_eq!(rt; refusal.to_string(rt.alloc())?.as_str(), text);
     }
     Ok(())
 }

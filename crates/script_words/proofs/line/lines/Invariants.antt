@@ -1,8 +1,0 @@
--- The lines so far are those of the first instructions.
-use Rattle.std.proofs.Common.{length, vec_items}
-use Rattle.script.specs.Calls.{instructions_of}
-use Rattle.script_words.proofs.Numbering.{LinesSoFar}
-use Rattle.script_words.proofs.line.lines.Given as goal
-
-abbrev pub invariant-loop-before : goal.invariant-loop-before
-invariant-loop-before l = LinesSoFar (λ address i. record { address = address; instruction = i }) (instructions_of l.script) (length (instructions_of l.script)) l.before (vec_items l.lines)
