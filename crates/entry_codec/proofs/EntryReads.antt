@@ -16,8 +16,7 @@ use Rattle.journal.specs.declared.refusal.LayRefusal.{LayRefusal}
 use Rattle.journal.specs.Kinds.{kind_number, kind_of}
 use Rattle.journal.proofs.Entries.{same_entry, number_fits}
 use Rattle.journal.proofs.KindNumbers.{kind_of_its_number, number_of_its_kind, kind_number_below}
-use Rattle.entry_codec.specs.declared.Placed.{Placed}
-use Rattle.entry_codec.specs.Reading.{and_then, standing, judged_part, part_at, owner_of, number_of, entry_of, placed, entry_at}
+use Rattle.entry_codec.specs.Reading.{and_then, standing, judged_part, part_at, owner_of, number_of, entry_of, entry_at}
 use Rattle.entry_codec.specs.Writing.{entry_bytes}
 
 -- an entry in range is the one of its parts
@@ -35,7 +34,7 @@ part_written meaning bs rest at v x h m e d = (
 )
 
 -- an entry's bytes are read as the entry, whatever stands before them, if a number ends after them
-pub read_entry_bytes : (bs rest : List ℕ) (at : ℕ) (e : Entry) → Ends rest → drop at bs ≡ entry_bytes e ++ rest → entry_at bs at ≡ Ok (record { entry = e; end = at + length (entry_bytes e) })
+pub read_entry_bytes : (bs rest : List ℕ) (at : ℕ) (e : Entry) → Ends rest → drop at bs ≡ entry_bytes e ++ rest → entry_at bs at ≡ Ok (e, at + length (entry_bytes e))
 unfolding entry_bytes
 read_entry_bytes bs rest at e h d =
     let o : List ℕ = writing e.owner in
@@ -46,12 +45,12 @@ read_entry_bytes bs rest at e h d =
     let first = part_written owner_of bs (k ++ (z ++ rest)) at e.owner e.owner (omega (arith, e.owned)) owned (ends_before_writing (kind_number e.kind) (z ++ rest)) (d ∙ apart) in
     let second = part_written kind_of bs (z ++ rest) (at + length o) (kind_number e.kind) e.kind (kind_number_below e.kind) (kind_of_its_number e.kind) (ends_before_writing (folded e.number) rest) first.1 in
     let third = part_written number_of bs rest (at + length o + length k) (folded e.number) e.number (folded_below e.number e.sized) (ap Some (unfolded_folded e.number)) h second.1 in
-    let same : placed e.owner e.kind e.number (at + length o + length k + length z) ≡ record { entry = e; end = at + length (o ++ (k ++ z)) } =
+    let same : ◌≡◌ {A = Entry × ℕ} (entry_of e.owner e.kind e.number, at + length o + length k + length z) (e, at + length (o ++ (k ++ z))) =
     let l : at + length o + length k + length z ≡ at + length (o ++ (k ++ z)) = omega (arith, length-append o (k ++ z), length-append k z) in
-    λ i. record { entry = sym (entry_of_parts e e.owner e.kind e.number refl refl refl) i; end = l i } in
-    ap (λ r. and_then r (λ o. and_then (part_at kind_of bs o.1) (λ k. and_then (part_at number_of bs k.1) (λ n. Ok (placed o.0 k.0 n.0 n.1))))) first.0
-    ∙ ap (λ r. and_then r (λ k. and_then (part_at number_of bs k.1) (λ n. Ok (placed e.owner k.0 n.0 n.1)))) second.0
-    ∙ ap (λ r. and_then r (λ n. Ok (placed e.owner e.kind n.0 n.1))) third.0
+    λ i. (sym (entry_of_parts e e.owner e.kind e.number refl refl refl) i, l i) in
+    ap (λ r. and_then r (λ o. and_then (part_at kind_of bs o.1) (λ k. and_then (part_at number_of bs k.1) (λ n. Ok (entry_of o.0 k.0 n.0, n.1))))) first.0
+    ∙ ap (λ r. and_then r (λ k. and_then (part_at number_of bs k.1) (λ n. Ok (entry_of e.owner k.0 n.0, n.1)))) second.0
+    ∙ ap (λ r. and_then r (λ n. Ok (entry_of e.owner e.kind n.0, n.1))) third.0
     ∙ ap Ok same
 
 -- what stands behind an accepted answer
@@ -85,7 +84,7 @@ pub record Parts (bs : List ℕ) (at : ℕ) (e : Entry) (end : ℕ) : Type 0 whe
   pub kind : WritingAt bs kind_place (kind_number e.kind) number_place
   pub number : WritingAt bs number_place (folded e.number) end
 
-pub parts_read : (bs : List ℕ) (at : ℕ) (p : Placed) → entry_at bs at ≡ Ok p → Parts bs at p.entry p.end
+pub parts_read : (bs : List ℕ) (at : ℕ) (p : Entry × ℕ) → entry_at bs at ≡ Ok p → Parts bs at p.0 p.1
 parts_read bs at p e =
     let first = then_accepted (part_at owner_of bs at) _ p e in
     let o = first.0 in
@@ -93,7 +92,7 @@ parts_read bs at p e =
     let k = second.0 in
     let third = then_accepted (part_at number_of bs k.1) _ p second.2 in
     let n = third.0 in
-    let same : placed o.0 k.0 n.0 n.1 ≡ p = let h = third.2 in cc in
+    let same : ◌≡◌ {A = Entry × ℕ} (entry_of o.0 k.0 n.0, n.1) p = let h = third.2 in cc in
     let a = part_accepted owner_of bs at o first.1 in
     let b = part_accepted kind_of bs o.1 k second.1 in
     let c = part_accepted number_of bs k.1 n third.1 in
@@ -110,18 +109,18 @@ parts_read bs at p e =
       kind = subst (λ v. WritingAt bs o.1 v k.1) vk b.1;
       number = subst (λ v. WritingAt bs k.1 v n.1) vn c.1;
     } in
-    subst (λ x. Parts bs at x.entry x.end) same here
+    subst (λ x. Parts bs at x.0 x.1) same here
 
 -- what is read as an entry are its bytes
-pub bytes_read : (bs : List ℕ) (at : ℕ) (p : Placed) → entry_at bs at ≡ Ok p → drop at bs ≡ entry_bytes p.entry ++ drop p.end bs
+pub bytes_read : (bs : List ℕ) (at : ℕ) (p : Entry × ℕ) → entry_at bs at ≡ Ok p → drop at bs ≡ entry_bytes p.0 ++ drop p.1 bs
 unfolding entry_bytes
 bytes_read bs at p e =
     let parts = parts_read bs at p e in
-    let o : List ℕ = writing p.entry.owner in
-    let k : List ℕ = writing (kind_number p.entry.kind) in
+    let o : List ℕ = writing p.0.owner in
+    let k : List ℕ = writing (kind_number p.0.kind) in
     parts.owner.bytes ∙ ap (λ t. o ++ t) (parts.kind.bytes ∙ ap (λ t. k ++ t) parts.number.bytes) ∙ sym (simp append_assoc)
 
-pub forward_read : (bs : List ℕ) (at : ℕ) (p : Placed) → entry_at bs at ≡ Ok p → (at < p.end) × (p.end ≤ length bs)
+pub forward_read : (bs : List ℕ) (at : ℕ) (p : Entry × ℕ) → entry_at bs at ≡ Ok p → (at < p.1) × (p.1 ≤ length bs)
 forward_read bs at p e =
     let parts = parts_read bs at p e in
     (omega (arith, parts.owner.forward, parts.kind.forward, parts.number.forward), parts.number.within)

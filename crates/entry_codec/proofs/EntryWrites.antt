@@ -38,5 +38,5 @@ wrote_entry w x y z at a b o k n e (Err m) p q s f g h l room =
 
 pub wrote_read_back : {E : Type 0} (xs ys : List ℕ) (at : ℕ) (e : Entry) (r : Result ℕ E) → Wrote xs at (entry_bytes e) r ys → IfOk r (λ end. EntryReadBack ys at e end)
 wrote_read_back xs ys at e (Ok end) w =
-    read_entry_bytes (take end ys) [] at e tt (written_there xs ys (entry_bytes e) at end w ∙ sym (append-nil (entry_bytes e))) ∙ ap (λ n. Ok (record { entry = e; end = n })) (sym w.ends)
+    read_entry_bytes (take end ys) [] at e tt (written_there xs ys (entry_bytes e) at end w ∙ sym (append-nil (entry_bytes e))) ∙ ap (λ n. Ok (e, n)) (sym w.ends)
 wrote_read_back xs ys at e (Err m) w = tt

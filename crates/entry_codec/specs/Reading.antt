@@ -12,7 +12,6 @@ use Rattle.journal.specs.declared.refusal.LayRefusal.{LayRefusal}
 use Rattle.journal.specs.declared.refusal.LayRefusal.TheVariants.{WrongNumber}
 use Rattle.journal.specs.Kinds.{kind_of}
 use Rattle.journal.specs.Refusals.{raised}
-use Rattle.entry_codec.specs.declared.Placed.{Placed}
 
 -- go on with what was read, or with the refusal
 abbrev pub and_then : {X Y : Type 0} → Result X LayRefusal → (X → Result Y LayRefusal) → Result Y LayRefusal
@@ -48,14 +47,10 @@ remainder_owned o = omega arith
 abbrev pub entry_of : ℕ → Kind → ℤ → Entry
 entry_of o k n = record { owner = o % 32768; kind = k; number = int_wrap w32 n; owned = remainder_owned o; sized = (SFits-int_wrap w32 n).sfits }
 
--- the same, with the place after it
-abbrev pub placed : ℕ → Kind → ℤ → ℕ → Placed
-placed o k n end = record { entry = entry_of o k n; end = end }
-
 -- the entry that begins at a place, and the place after it
-abbrev pub entry_at : List ℕ → ℕ → Result Placed LayRefusal
+abbrev pub entry_at : List ℕ → ℕ → Result (Entry × ℕ) LayRefusal
 entry_at bs at =
     and_then (part_at owner_of bs at) (λ o.
     and_then (part_at kind_of bs o.1) (λ k.
     and_then (part_at number_of bs k.1) (λ n.
-    Ok (placed o.0 k.0 n.0 n.1))))
+    Ok (entry_of o.0 k.0 n.0, n.1))))

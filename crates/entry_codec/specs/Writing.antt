@@ -12,4 +12,4 @@ entry_bytes e = writing e.owner ++ (writing (kind_number e.kind) ++ writing (fol
 
 -- the bytes up to `end`, read at `at`, give the entry back
 abbrev pub EntryReadBack : List ℕ → ℕ → Entry → ℕ → Type 0
-EntryReadBack ys at e end = entry_at (take end ys) at ≡ Ok (record { entry = e; end = end })
+EntryReadBack ys at e end = entry_at (take end ys) at ≡ Ok (e, end)

@@ -4,7 +4,7 @@
 ghost use Rattle.std.specs.Prelude.{◌≡◌, ◌+◌, ◌≤◌, length, IfOk};
 ghost use Rattle.journal.specs.Kinds.{kind_of};
 ghost use Rattle.varint.specs.Written.{Wrote};
-ghost use Rattle.entry_codec.specs.Reading.{part_at, owner_of, number_of, entry_at, placed};
+ghost use Rattle.entry_codec.specs.Reading.{part_at, owner_of, number_of, entry_at};
 ghost use Rattle.entry_codec.specs.Writing.{entry_bytes, EntryReadBack};
 
 use journal::entry::{Entry, MOST_OWNER};
@@ -13,32 +13,23 @@ use journal::refusal::LayRefusal;
 use varint::number::{NoRoom, read, size, write};
 use varint::zigzag::{fold, unfold};
 
-// An entry that was read, and the place after it.
-#[derive(Clone, Copy)]
-pub struct Placed {
-    pub entry: Entry,
-    pub end: usize,
-}
-
 fn read_owner(bytes: &[u8], at: usize) -> Result<(u16, usize), LayRefusal>
     ensures answer { result ≡ part_at owner_of bytes.now at }
     ensures owned { IfOk result (λ p. p.0 ≤ 32767) }
 {
     let (owner, end) = read(bytes, at)?;
-    if owner > u32::from(MOST_OWNER) {
-        return Err(LayRefusal::WrongNumber(at));
+    match u16::try_from(owner) {
+        Ok(owner @ ..=MOST_OWNER) => Ok((owner, end)),
+        _ => Err(LayRefusal::WrongNumber(at)),
     }
-    Ok((owner as u16, end))
 }
 
 fn read_kind(bytes: &[u8], at: usize) -> Result<(Kind, usize), LayRefusal>
     ensures { result ≡ part_at kind_of bytes.now at }
 {
     let (number, end) = read(bytes, at)?;
-    match Kind::of_number(number) {
-        Some(kind) => Ok((kind, end)),
-        None => Err(LayRefusal::WrongNumber(at)),
-    }
+    let kind = Kind::try_from(number).map_err(|_| LayRefusal::WrongNumber(at))?;
+    Ok((kind, end))
 }
 
 fn read_number(bytes: &[u8], at: usize) -> Result<(i32, usize), LayRefusal>
@@ -48,34 +39,25 @@ fn read_number(bytes: &[u8], at: usize) -> Result<(i32, usize), LayRefusal>
     Ok((unfold(folded), end))
 }
 
-fn place(owner: u16, kind: Kind, number: i32, end: usize) -> Placed
-    requires { owner ≤ 32767 }
-    ensures { result ≡ placed owner kind number end }
-{
-    Placed {
-        entry: Entry {
-            owner,
-            kind,
-            number,
-        },
-        end,
-    }
-}
-
-// The entry that begins at a place.
-pub fn read_entry(bytes: &[u8], at: usize) -> Result<Placed, LayRefusal>
+// The entry that begins at a place, and the place after it.
+pub fn read_entry(bytes: &[u8], at: usize) -> Result<(Entry, usize), LayRefusal>
     ensures { result ≡ entry_at bytes.now at }
 {
     let (owner, kind_at) = read_owner(bytes, at)?;
     let (kind, number_at) = read_kind(bytes, kind_at)?;
     let (number, end) = read_number(bytes, number_at)?;
-    Ok(place(owner, kind, number, end))
+    let entry = Entry {
+        owner,
+        kind,
+        number,
+    };
+    Ok((entry, end))
 }
 
 fn entry_size(entry: Entry) -> usize
     ensures { result ≡ length (entry_bytes entry) }
 {
-    size(u32::from(entry.owner)) + size(entry.kind.number()) + size(fold(entry.number))
+    size(u32::from(entry.owner)) + size(u32::from(entry.kind)) + size(fold(entry.number))
 }
 
 fn put_entry(bytes: &mut [u8], at: usize, entry: Entry) -> Result<usize, NoRoom>
@@ -84,7 +66,7 @@ fn put_entry(bytes: &mut [u8], at: usize, entry: Entry) -> Result<usize, NoRoom>
     ensures back { IfOk result (λ end. EntryReadBack bytes.new at entry end) }
 {
     let kind_at = write(bytes, at, u32::from(entry.owner))?;
-    let number_at = write(bytes, kind_at, entry.kind.number())?;
+    let number_at = write(bytes, kind_at, u32::from(entry.kind))?;
     write(bytes, number_at, fold(entry.number))
 }
 

@@ -1,6 +1,7 @@
 -- The numbers of the kinds.
-use Rattle.std.specs.Prelude.{ℕ, cond, Some, None, Option, ◌==◌}
+use Rattle.std.specs.Prelude.{◌≡◌, ℕ, cond, Some, None, Option, Result, MatchResult, ◌==◌}
 use Rattle.journal.specs.declared.kind.Kind.{Kind}
+use Rattle.journal.specs.declared.kind.UnknownKind.{UnknownKind}
 use Rattle.journal.specs.declared.kind.Kind.TheVariants.{Run, Done, Enter, Store, Jump, Alloc, Free, Fork, Merge}
 
 -- the number of a kind
@@ -27,3 +28,7 @@ kind_of n =
     cond (n == 7) (Some Free) (
     cond (n == 8) (Some Fork) (
     cond (n == 9) (Some Merge) None))))))))
+
+-- what the number n is answered with: its kind, whose number it is, or that no kind has it
+abbrev pub KindOrUnknown : ℕ → Result Kind UnknownKind → Type 0
+KindOrUnknown n r = MatchResult r (λ kind. (kind_of n ≡ Some kind) × (kind_number kind ≡ n)) (λ unknown. (kind_of n ≡ None) × (unknown.0 ≡ n))

@@ -1,6 +1,6 @@
 // The kinds of entries and their numbers.
-ghost use Rattle.std.specs.Prelude.{◌≡◌, IfSome, Some};
-ghost use Rattle.journal.specs.Kinds.{kind_number, kind_of};
+ghost use Rattle.std.specs.Prelude.{◌≡◌, Some};
+ghost use Rattle.journal.specs.Kinds.{kind_number, kind_of, KindOrUnknown};
 
 // What an entry records.
 #[derive(Clone, Copy, PartialEq, Eq, Debug)]
@@ -16,31 +16,37 @@ pub enum Kind {
     Merge = 9,
 }
 
-impl Kind {
-    // The number that stands for the kind in bytes.
-    pub fn number(self) -> u32
-        ensures answer { result ≡ kind_number self }
-        ensures back { kind_of result ≡ Some self }
-    {
-        self as u32
-    }
+// A number that stands for no kind.
+#[derive(Clone, Copy, PartialEq, Eq, Debug)]
+pub struct UnknownKind(pub u32);
 
-    // The kind of that number, if there is one.
-    pub fn of_number(number: u32) -> Option<Kind>
-        ensures answer { result ≡ kind_of number }
-        ensures back { IfSome result (λ kind. kind_number kind ≡ number) }
-    {
+// The number that stands for the kind in bytes.
+impl From<Kind> for u32 {
+    ghost from_gives = { λ kind number. (number ≡ kind_number kind) × (kind_of number ≡ Some kind) };
+
+    fn from(kind: Kind) -> u32 {
+        kind as u32
+    }
+}
+
+// The kind of a number, if there is one.
+impl TryFrom<u32> for Kind {
+    type Error = UnknownKind;
+
+    ghost try_from_gives = { KindOrUnknown };
+
+    fn try_from(number: u32) -> Result<Kind, UnknownKind> {
         match number {
-            1 => Some(Kind::Run),
-            2 => Some(Kind::Done),
-            3 => Some(Kind::Enter),
-            4 => Some(Kind::Store),
-            5 => Some(Kind::Jump),
-            6 => Some(Kind::Alloc),
-            7 => Some(Kind::Free),
-            8 => Some(Kind::Fork),
-            9 => Some(Kind::Merge),
-            _ => None,
+            1 => Ok(Kind::Run),
+            2 => Ok(Kind::Done),
+            3 => Ok(Kind::Enter),
+            4 => Ok(Kind::Store),
+            5 => Ok(Kind::Jump),
+            6 => Ok(Kind::Alloc),
+            7 => Ok(Kind::Free),
+            8 => Ok(Kind::Fork),
+            9 => Ok(Kind::Merge),
+            _ => Err(UnknownKind(number)),
         }
     }
 }

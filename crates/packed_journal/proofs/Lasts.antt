@@ -8,7 +8,6 @@ use Rattle.varint.specs.Zigzag.{folded}
 use Rattle.journal.specs.Kinds.{kind_number}
 use Rattle.journal.specs.declared.entry.Entry.{Entry}
 use Rattle.journal.specs.declared.refusal.LayRefusal.{LayRefusal}
-use Rattle.entry_codec.specs.declared.Placed.{Placed}
 use Rattle.entry_codec.specs.Reading.{entry_at}
 use Rattle.entry_codec.specs.Writing.{entry_bytes}
 use Rattle.entry_codec.proofs.EntryReads.{Parts, parts_read, bytes_read}
@@ -80,18 +79,18 @@ found : {X Y : Type 0} (o : Option X) (next : X → Option Y) (y : Y) → if_fou
 found None next y e = let z : ◌≡◌ {A = ℕ} 0 1 = cc in absurd (omega arith)
 found (Some x) next y e = (x, refl, e)
 
-from_found : (start : ℕ) (r : Result Placed LayRefusal) (l : Last) → last_from start r ≡ Some l → (p : Placed) × (r ≡ Ok p) × (p.entry ≡ l.entry) × (start ≡ l.start)
+from_found : (start : ℕ) (r : Result (Entry × ℕ) LayRefusal) (l : Last) → last_from start r ≡ Some l → (p : Entry × ℕ) × (r ≡ Ok p) × (p.0 ≡ l.entry) × (start ≡ l.start)
 from_found start (Ok p) l e =
-    let same : ◌≡◌ {A = Last} (record { entry = p.entry; start = start }) l = cc in
+    let same : ◌≡◌ {A = Last} (record { entry = p.0; start = start }) l = cc in
     (p, refl, ap (λ x. x.entry) same, ap (λ x. x.start) same)
 from_found start (Err f) l e = let z : ◌≡◌ {A = ℕ} 0 1 = cc in absurd (omega arith)
 
 -- an entry that is read up to the end is the last one
-pub read_is_last : (bs : List ℕ) (at : ℕ) (p : Placed) → entry_at bs at ≡ Ok p → p.end ≡ length bs → last_entry bs ≡ Some (record { entry = p.entry; start = at })
+pub read_is_last : (bs : List ℕ) (at : ℕ) (p : Entry × ℕ) → entry_at bs at ≡ Ok p → p.1 ≡ length bs → last_entry bs ≡ Some (record { entry = p.0; start = at })
 unfolding last_entry
 read_is_last bs at p e h =
     let parts = parts_read bs at p e in
-    let number = begins_start bs p.end parts.number_place (own_begins bs parts.number_place _ p.end parts.number) in
+    let number = begins_start bs p.1 parts.number_place (own_begins bs parts.number_place _ p.1 parts.number) in
     let kind = begins_start bs parts.number_place parts.kind_place (own_begins bs parts.kind_place _ parts.number_place parts.kind) in
     let owner = begins_start bs parts.kind_place at (own_begins bs at _ parts.kind_place parts.owner) in
     ap (λ o. if_found o (λ number. if_found (last_start bs number) (λ kind. if_found (last_start bs kind) (λ start. last_from start (entry_at bs start))))) (ap (last_start bs) (sym h) ∙ number)
@@ -101,10 +100,10 @@ read_is_last bs at p e h =
 
 -- the last entry is read up to the end
 pub record LastRead (bs : List ℕ) (l : Last) : Type 0 where
-  pub placed : Placed
+  pub placed : Entry × ℕ
   pub read : entry_at bs l.start ≡ Ok placed
-  pub entry : placed.entry ≡ l.entry
-  pub end : placed.end ≡ length bs
+  pub entry : placed.0 ≡ l.entry
+  pub end : placed.1 ≡ length bs
 
 -- three numbers in a row, read as an entry, reach the end
 ends_at_end : (bs : List ℕ) (start kind number end : ℕ) (e : Entry) → Parts bs start e end → Begins bs start kind → Begins bs kind number → Begins bs number (length bs) → end ≡ length bs
@@ -125,7 +124,7 @@ last_is_read bs l e =
       placed = last.0;
       read = ap (entry_at bs) (sym last.3) ∙ last.1;
       entry = last.2;
-      end = ends_at_end bs three.0 two.0 one.0 last.0.end last.0.entry (parts_read bs three.0 last.0 last.1)
+      end = ends_at_end bs three.0 two.0 one.0 last.0.1 last.0.0 (parts_read bs three.0 last.0 last.1)
           (start_begins bs two.0 three.0 three.1) (start_begins bs one.0 two.0 two.1) (start_begins bs (length bs) one.0 one.1);
     }
 

@@ -10,7 +10,6 @@ use Rattle.varint.proofs.Readings.{ends_before_writing}
 use Rattle.journal.specs.declared.entry.Entry.{Entry}
 use Rattle.journal.specs.declared.refusal.LayRefusal.{LayRefusal}
 use Rattle.journal.specs.declared.refusal.LayRefusal.TheVariants.{UsedBeyondEnd}
-use Rattle.entry_codec.specs.declared.Placed.{Placed}
 use Rattle.entry_codec.specs.Reading.{and_then, entry_at}
 use Rattle.entry_codec.specs.Writing.{entry_bytes}
 use Rattle.entry_codec.proofs.EntryReads.{read_entry_bytes, bytes_read, forward_read}
@@ -31,22 +30,22 @@ ends_before_entries (x ∷ xs) = ends_before_entry x (flat_map entry_bytes xs)
 pub read_end : (most : ℕ) (bs : List ℕ) (at : ℕ) (older : List Entry) → length bs ≤ at → read_from most bs at older ≡ Ok older
 unfolding read_from
 read_end zero bs at older h = refl
-read_end (suc most) bs at older h = ap (λ t. cond t (Ok older) (and_then (entry_at bs at) (λ p. read_from most bs p.end (p.entry ∷ older)))) (le-leb (length bs) at h)
+read_end (suc most) bs at older h = ap (λ t. cond t (Ok older) (and_then (entry_at bs at) (λ p. read_from most bs p.1 (p.0 ∷ older)))) (le-leb (length bs) at h)
 
-read_step : (most : ℕ) (bs : List ℕ) (at : ℕ) (older : List Entry) (r : Result Placed LayRefusal) → at < length bs → entry_at bs at ≡ r
-    → read_from (suc most) bs at older ≡ and_then r (λ p. read_from most bs p.end (p.entry ∷ older))
+read_step : (most : ℕ) (bs : List ℕ) (at : ℕ) (older : List Entry) (r : Result (Entry × ℕ) LayRefusal) → at < length bs → entry_at bs at ≡ r
+    → read_from (suc most) bs at older ≡ and_then r (λ p. read_from most bs p.1 (p.0 ∷ older))
 unfolding read_from
 read_step most bs at older r h e =
-    ap (λ t. cond t (Ok older) (and_then (entry_at bs at) (λ p. read_from most bs p.end (p.entry ∷ older)))) (lt-leb (length bs) at h)
-    ∙ ap (λ r. and_then r (λ p. read_from most bs p.end (p.entry ∷ older))) e
+    ap (λ t. cond t (Ok older) (and_then (entry_at bs at) (λ p. read_from most bs p.1 (p.0 ∷ older)))) (lt-leb (length bs) at h)
+    ∙ ap (λ r. and_then r (λ p. read_from most bs p.1 (p.0 ∷ older))) e
 
 -- the turns of a reader that has so many left
 pub read_refused : (most : ℕ) (bs : List ℕ) (at : ℕ) (older : List Entry) (f : LayRefusal) → at < length bs → length bs - at ≤ most → entry_at bs at ≡ Err f → read_from most bs at older ≡ Err f
 read_refused zero bs at older f h l e = absurd (omega arith)
 read_refused (suc most) bs at older f h l e = read_step most bs at older (Err f) h e
 
-pub read_turn : (most : ℕ) (bs : List ℕ) (at : ℕ) (older : List Entry) (p : Placed) → at < length bs → length bs - at ≤ most → entry_at bs at ≡ Ok p
-    → (less : ℕ) × (length bs - p.end ≤ less) × (read_from most bs at older ≡ read_from less bs p.end (p.entry ∷ older))
+pub read_turn : (most : ℕ) (bs : List ℕ) (at : ℕ) (older : List Entry) (p : Entry × ℕ) → at < length bs → length bs - at ≤ most → entry_at bs at ≡ Ok p
+    → (less : ℕ) × (length bs - p.1 ≤ less) × (read_from most bs at older ≡ read_from less bs p.1 (p.0 ∷ older))
 read_turn zero bs at older p h l e = absurd (omega arith)
 read_turn (suc most) bs at older p h l e = (most, omega (arith, (forward_read bs at p e).0), read_step most bs at older (Ok p) h e)
 
@@ -70,18 +69,18 @@ pub record Read (bs : List ℕ) (at : ℕ) (older es : List Entry) : Type 0 wher
   pub bytes : drop at bs ≡ flat_map entry_bytes newer
   pub list : es ≡ reverse newer ++ older
 
-read_more : (bs : List ℕ) (at : ℕ) (older es : List Entry) (p : Placed) → entry_at bs at ≡ Ok p → Read bs p.end (p.entry ∷ older) es → Read bs at older es
+read_more : (bs : List ℕ) (at : ℕ) (older es : List Entry) (p : Entry × ℕ) → entry_at bs at ≡ Ok p → Read bs p.1 (p.0 ∷ older) es → Read bs at older es
 read_more bs at older es p e r = record {
-  newer = p.entry ∷ r.newer;
-  bytes = bytes_read bs at p e ∙ ap (λ t. entry_bytes p.entry ++ t) r.bytes;
-  list = r.list ∙ sym (ap (λ t. t ++ older) (reverse-append (p.entry ∷ []) r.newer) ∙ append_assoc (reverse r.newer) (p.entry ∷ []) older);
+  newer = p.0 ∷ r.newer;
+  bytes = bytes_read bs at p e ∙ ap (λ t. entry_bytes p.0 ++ t) r.bytes;
+  list = r.list ∙ sym (ap (λ t. t ++ older) (reverse-append (p.0 ∷ []) r.newer) ∙ append_assoc (reverse r.newer) (p.0 ∷ []) older);
 }
 
 read_none : (bs : List ℕ) (at : ℕ) (older es : List Entry) → length bs ≤ at → ◌≡◌ {A = Result (List Entry) LayRefusal} (Ok older) (Ok es) → Read bs at older es
 read_none bs at older es h e = record { newer = []; bytes = drop_all at bs h; list = let q : older ≡ es = cc in sym q }
 
-read_going : (bs : List ℕ) (at : ℕ) (older es : List Entry) (next : Placed → Result (List Entry) LayRefusal) (r : Result Placed LayRefusal) → entry_at bs at ≡ r → and_then r next ≡ Ok es
-    → ((p : Placed) → at < p.end → next p ≡ Ok es → Read bs p.end (p.entry ∷ older) es) → Read bs at older es
+read_going : (bs : List ℕ) (at : ℕ) (older es : List Entry) (next : Entry × ℕ → Result (List Entry) LayRefusal) (r : Result (Entry × ℕ) LayRefusal) → entry_at bs at ≡ r → and_then r next ≡ Ok es
+    → ((p : Entry × ℕ) → at < p.1 → next p ≡ Ok es → Read bs p.1 (p.0 ∷ older) es) → Read bs at older es
 read_going bs at older es next (Ok p) e h more = read_more bs at older es p e (more p (forward_read bs at p e).0 h)
 read_going bs at older es next (Err f) e h more = let z : ◌≡◌ {A = ℕ} 0 1 = cc in absurd (omega arith)
 
@@ -91,7 +90,7 @@ read_sound zero bs at older es h e = read_none bs at older es (omega arith) e
 read_sound (suc most) bs at older es h e =
     ⊎_elim
     (λ l. read_going bs at older es _ (entry_at bs at) refl (sym (read_step most bs at older (entry_at bs at) l refl) ∙ e)
-    (λ p f k. read_sound most bs p.end (p.entry ∷ older) es (omega arith) k))
+    (λ p f k. read_sound most bs p.1 (p.0 ∷ older) es (omega arith) k))
     (λ l. read_none bs at older es l (sym (read_end (suc most) bs at older l) ∙ e))
     (cases_lt at (length bs))
 

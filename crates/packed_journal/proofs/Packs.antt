@@ -25,7 +25,7 @@ entry_long e = omega (arith, length_entry e, size_least e.owner)
 -- an entry behind other bytes is the last one
 last_of_pushed : (bs : List ℕ) (e : Entry) → last_entry (bs ++ entry_bytes e) ≡ Some (record { entry = e; start = length bs })
 last_of_pushed bs e =
-    read_is_last (bs ++ entry_bytes e) (length bs) (record { entry = e; end = length bs + length (entry_bytes e) })
+    read_is_last (bs ++ entry_bytes e) (length bs) (e, length bs + length (entry_bytes e))
     (read_entry_bytes (bs ++ entry_bytes e) [] (length bs) e tt (drop_at bs (entry_bytes e) (length bs) refl ∙ sym (append-nil (entry_bytes e))))
     (sym (length-append bs (entry_bytes e)))
 

@@ -9,7 +9,7 @@ use Rattle.packed_journal.specs.Packing.{packed, bytes_fit, entries_of, shown, f
 -- the entries from a place on, at most `most` of them, on top of the older ones; or the first refusal
 unfoldable pub read_from : ℕ → List ℕ → ℕ → List Entry → Result (List Entry) LayRefusal
 read_from zero bs at older = Ok older
-read_from (suc most) bs at older = cond (nat_le (length bs) at) (Ok older) (and_then (entry_at bs at) (λ p. read_from most bs p.end (p.entry ∷ older)))
+read_from (suc most) bs at older = cond (nat_le (length bs) at) (Ok older) (and_then (entry_at bs at) (λ p. read_from most bs p.1 (p.0 ∷ older)))
 
 -- all bytes as entries: each entry takes a byte at least
 unfoldable pub read_all : List ℕ → Result (List Entry) LayRefusal

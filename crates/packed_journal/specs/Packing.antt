@@ -3,7 +3,6 @@ use Rattle.std.specs.Prelude.{ℕ, zero, suc, ◌+◌, ◌-◌, Bool, cond, List
 use Rattle.std.specs.List.{flat_map}
 use Rattle.journal.specs.declared.entry.Entry.{Entry}
 use Rattle.journal.specs.declared.refusal.LayRefusal.{LayRefusal}
-use Rattle.entry_codec.specs.declared.Placed.{Placed}
 use Rattle.entry_codec.specs.Reading.{entry_at}
 use Rattle.entry_codec.specs.Writing.{entry_bytes}
 use Rattle.packed_journal.specs.declared.last.Last.{Last}
@@ -27,8 +26,8 @@ if_found None next = None
 if_found (Some x) next = next x
 
 -- the entry that was read from its start on, if one was
-abbrev pub last_from : ℕ → Result Placed LayRefusal → Option Last
-last_from start (Ok p) = Some (record { entry = p.entry; start = start })
+abbrev pub last_from : ℕ → Result (Entry × ℕ) LayRefusal → Option Last
+last_from start (Ok p) = Some (record { entry = p.0; start = start })
 last_from start (Err refusal) = None
 
 -- the entry whose three numbers are the last ones

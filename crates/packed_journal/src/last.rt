@@ -6,7 +6,7 @@ use entry_codec::read_entry;
 use journal::entry::Entry;
 
 // An entry that ends at the end of bytes, and where it begins.
-#[derive(Clone, Copy)]
+#[derive(Clone, Copy, PartialEq, Eq, Debug)]
 pub struct Last {
     pub entry: Entry,
     pub start: usize,
@@ -27,17 +27,13 @@ fn start_before(bytes: &[u8], end: usize) -> Option<usize>
 }
 
 // The entry that ends where the bytes end.
+#[tactic(auto, unfolding(crate::specs::Packing::last_entry))]
 pub fn last_entry(bytes: &[u8]) -> Option<Last>
     ensures { result ≡ last_entry bytes.now }
 {
     let number = start_before(bytes, bytes.len())?;
     let kind = start_before(bytes, number)?;
     let start = start_before(bytes, kind)?;
-    match read_entry(bytes, start) {
-        Ok(placed) => Some(Last {
-            entry: placed.entry,
-            start,
-        }),
-        Err(_) => None,
-    }
+    let (entry, _) = read_entry(bytes, start).ok()?;
+    Some(Last { entry, start })
 }

@@ -12,7 +12,7 @@ pub fn read_through(bytes: &[u8]) -> Result<(), LayRefusal>
 {
     let mut at = 0;
     while at < bytes.len() {
-        at = read_entry(bytes, at)?.end;
+        (_, at) = read_entry(bytes, at)?;
     }
     Ok(())
 }

@@ -1,28 +1,31 @@
 // A journal over a lent table, with one entry in each place.
 #![tactic(auto)]
 
-ghost use Rattle.std.specs.Prelude.{◌≡◌, ◌+◌, ◌<◌, true, [], ◌∷◌, length, OnErr, OnOk, slice_set};
+ghost use Rattle.std.specs.Prelude.{◌≡◌, ◌≤◌, [], ◌∷◌, length, OnErr, OnOk, slice_set};
 ghost use Rattle.journal.specs.Meaning.{push_answer, pushed, newest_of, older_of};
-ghost use Rattle.slot_journal.specs.Slots.{held, places_enough, NewestPlace, table_of, list_of, rule_of};
 
 use journal::entry::Entry;
 use journal::journal::{Full, Journal};
 
 // The oldest entry stands in place 0; the places from len on are free.
+// The table is lent, so what is used of it is a count beside it and no vector.
 #[derive(Drop)]
 pub struct SlotJournal<'a> {
     slots: &'a mut [Entry],
     len: usize,
+    ghost within: { len ≤ length slots.now },
 }
 
 // The newest entry and where it stands.
-#[derive(Clone, Copy)]
+#[derive(Clone, Copy, PartialEq, Eq, Debug)]
 struct Newest {
     entry: Entry,
     place: usize,
 }
 
 impl<'a> SlotJournal<'a> {
+    ghost use Rattle.slot_journal.specs.Slots.{places_enough, NewestPlace, table_of, list_of, rule_of};
+
     // The journal over the table, with no entry in it yet.
     pub fn new(slots: &'a mut [Entry]) -> SlotJournal<'a>
         ensures empty { list_of result ≡ [] }
@@ -32,39 +35,20 @@ impl<'a> SlotJournal<'a> {
         SlotJournal { slots, len: 0 }
     }
 
-    // Whether one entry more has a place.
-    fn has_room(&self, entry: Entry) -> bool
-        ensures rule { rule_of self.now (entry ∷ list_of self.now) ≡ result }
-        ensures place { result ≡ true → self.now.len < length (table_of self.now) }
-    {
-        self.len < self.slots.len()
-    }
-
     fn last(&self) -> Option<Newest>
         ensures { NewestPlace (table_of self.now) self.now.len result }
     {
-        let used = self.len.min(self.slots.len());
-        if used == 0 {
-            return None;
-        }
+        let place = self.len.checked_sub(1)?;
         Some(Newest {
-            entry: self.slots[used - 1],
-            place: used - 1,
+            entry: self.slots[place],
+            place,
         })
     }
 }
 
-// Writes the entry into a place.
-fn put(slots: &mut [Entry], place: usize, entry: Entry)
-    requires { place < length slots.old }
-    ensures list { held (place + 1) slots.new ≡ entry ∷ held place slots.old }
-    ensures rule { places_enough slots.new ≡ places_enough slots.old }
-    ensures places { slots.new ≡ slice_set slots.old place entry }
-{
-    slots[place] = entry;
-}
-
 impl<'a> Journal for SlotJournal<'a> {
+    ghost use Rattle.slot_journal.specs.Slots.{table_of, list_of, rule_of};
+
     ghost entries = { list_of };
 
     ghost fits = { rule_of };
@@ -77,12 +61,11 @@ impl<'a> Journal for SlotJournal<'a> {
         ensures full { OnErr result (self.new ≡ self.old) }
         ensures places { OnOk result (table_of self.new ≡ slice_set (table_of self.old) self.old.len entry) }
     {
-        if !self.has_room(entry) {
+        if self.len == self.slots.len() {
             return Err(Full);
         }
-        let place = self.len;
-        put(self.slots, place, entry);
-        self.len = place + 1;
+        self.slots[self.len] = entry;
+        self.len += 1;
         Ok(())
     }
 

@@ -19,7 +19,7 @@ pub enum Fault {
 pub struct NoRoom;
 
 // A number as it stands in bytes, in any writing of at most five groups.
-#[derive(Clone, Copy)]
+#[derive(Clone, Copy, PartialEq, Eq, Debug)]
 struct Reading {
     value: u32,
     end: usize,

@@ -47,7 +47,7 @@ pub record WorkedCases : Type 0 where
   pub folding : folded (negsuc 0) ≡ 1
   pub unfolding_back : unfolded 1 ≡ negsuc 0
   pub entry : entry_bytes stored ≡ 10 ∷ 4 ∷ 2 ∷ 172 ∷ []
-  pub entry_read : entry_at (10 ∷ 4 ∷ 2 ∷ 172 ∷ []) 0 ≡ Ok (record { entry = stored; end = 4 })
+  pub entry_read : entry_at (10 ∷ 4 ∷ 2 ∷ 172 ∷ []) 0 ≡ Ok (stored, 4)
   -- scripts
   pub script_read : read_image adder_image ≡ Ok adder
   pub script_written : image adder ≡ adder_image

@@ -13,6 +13,6 @@ returns c =
       arith,
       length_entry c.args.entry,
       c.size.ensures.0 ∙ ap (λ n. length (writing n)) c.from.ensures,
-      c.size-2.ensures.0 ∙ ap (λ n. length (writing n)) c.number.ensures.answer,
+      c.size-2.ensures.0 ∙ ap (λ n. length (writing n)) c.from-2.ensures.0,
       c.size-3.ensures.0 ∙ ap (λ n. length (writing n)) (c.fold.ensures.answer ∙ ap folded (to_z-of_z w32 c.args.entry.number (number_fits c.args.entry))),
     )

@@ -18,13 +18,13 @@ returns-in_err-at c =
     rw (p.1, p.2) (record { answer = e; back = yield_each_other_back; unique = one_writing })
 
 pub loop-at-smaller : goal.loop-at-smaller
-loop-at-smaller c = omega (arith, (forward_read c.args.bytes.now c.loop-at.at c.in_ok-at.field-0 (sym c.in_ok-at.ensures)).0)
+loop-at-smaller c = omega (arith, (forward_read c.args.bytes.now c.loop-at.at (c.in_ok-at.field-0-0, c.in_ok-at.field-0-1) (sym c.in_ok-at.ensures)).0)
 
 pub loop-at-preserved : goal.loop-at-preserved
 loop-at-preserved c =
     let i = c.loop-at.invariant in
-    let t = read_turn i.0 c.args.bytes.now c.loop-at.at i.2.0 c.in_ok-at.field-0 (omega arith) i.1 (sym c.in_ok-at.ensures) in
-    (t.0, t.1, (c.in_ok-at.field-0.entry ∷ i.2.0, i.2.1 ∙ t.2))
+    let t = read_turn i.0 c.args.bytes.now c.loop-at.at i.2.0 (c.in_ok-at.field-0-0, c.in_ok-at.field-0-1) (omega arith) i.1 (sym c.in_ok-at.ensures) in
+    (t.0, t.1, (c.in_ok-at.field-0-0 ∷ i.2.0, i.2.1 ∙ t.2))
 
 pub returns : goal.returns
 returns c =

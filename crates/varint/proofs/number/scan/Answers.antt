@@ -30,9 +30,6 @@ returns-then-first-ge128-clause-answer c =
     let groups = counted_groups bytes c.args.at c.in-Some.field-0.now c.count_later.result (search rules) (search rules) c.count_later.ensures.run in
     sym (scanned_groups bytes _ c.args.at c.in-Some.field-0.now groups ∙ judged_wrong c.args.at c.in-Some.field-0.now _ (⊎_elim inl (λ p. inr (inl p.1)) c.then-first-ge128.either))
 
-pub loop-byte-init : goal.loop-byte-init
-loop-byte-init c = let e = sym c.from-value.ensures in (cc, omega arith)
-
 pub overflow_mul-value : goal.overflow_mul-value
 overflow_mul-value c = omega (arith, four_groups c.loop-byte.value c.loop-byte.byte-index (omega arith) c.loop-byte.invariant.1)
 
