@@ -7,7 +7,6 @@ pub mod Refusals
 pub mod Images
 pub mod Flow
 pub mod Held
-pub mod Fronts
 pub mod Framing
 pub mod Linking
 pub mod Stages
