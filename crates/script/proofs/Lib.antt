@@ -2,8 +2,7 @@ pub mod Addresses
 pub mod Outside
 pub mod Searches
 pub mod Turns
-pub mod FrontLaws
-pub mod OpenTables
+pub mod Innermost
 pub mod Linkings
 pub mod ReferenceTurns
 pub mod Acceptance

@@ -8,7 +8,6 @@ pub mod RefusalWords
 pub mod Images
 pub mod Flow
 pub mod Held
-pub mod Fronts
 pub mod Framing
 pub mod Linking
 pub mod Stages

@@ -6,9 +6,10 @@ ghost use Rattle.script.specs.Frames.{beside_by};
 use instruction::instruction::Instruction;
 
 // A stretch of instructions from an opener to its closer.
-#[derive(Clone, Copy, PartialEq, Eq, Debug)]
+#[derive(Clone, Copy, Default, PartialEq, Eq, Debug)]
 pub(crate) enum FrameKind {
     Procedure(u8), // from proc to p_return
+    #[default]
     Branch, // from par begin to par end
     Forked(u8), // from fork to merge
 }
