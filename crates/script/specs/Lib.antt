@@ -11,5 +11,4 @@ pub mod Fronts
 pub mod Framing
 pub mod Names
 pub mod Linking
-pub mod Stages
 pub mod Calls
