@@ -3,6 +3,7 @@ use Rattle.std.proofs.Common.{◌≡◌, ℕ, zero, suc, ◌+◌, ◌<◌, ◌�
 use Rattle.std.specs.List.{flat_map}
 use Rattle.std.proofs.lemmas.List.{append_assoc, append-nil, drop_all, drop_at, drop-drop, length-map}
 use Rattle.std.proofs.lemmas.Bool.{and_parts, and_from, leb-true, le-leb, ltb-true, lt-ltb}
+use Rattle.std.specs.Option.{ok_or}
 use Rattle.varint.specs.declared.number.Fault.{Fault}
 use Rattle.varint.specs.Writings.{writing}
 use Rattle.varint.specs.Readings.{number_at, Ends, WritingAt}
@@ -12,10 +13,10 @@ use Rattle.instruction.specs.Codes.{instruction_of, code_and_operand}
 use Rattle.instruction.proofs.CodeTable.{code_of_its_instruction, instruction_of_its_code, code_small}
 use Rattle.script.specs.declared.instructions.Instructions.{Instructions}
 use Rattle.script.specs.declared.refusal.ImageRefusal.{ImageRefusal}
-use Rattle.script.specs.declared.refusal.ImageRefusal.TheVariants.{GoesOn, WrongCount}
+use Rattle.script.specs.declared.refusal.ImageRefusal.TheVariants.{GoesOn, WrongCount, WrongInstruction}
 use Rattle.script.specs.Frames.{frames_judged}
 use Rattle.script.specs.References.{references_judged}
-use Rattle.script.specs.Images.{pair_bytes, image_of, image, and_then, or_raised, image_number, count_judged, pair_at, pairs_from, end_judged, pairs_of, instruction_or, decoded_from, decoded, instructions_read, judged, read_image, is_writable, are_writable, has_image, Accepted, ImagesAndScripts, OneImage}
+use Rattle.script.specs.Images.{pair_bytes, image_of, image, and_then, or_raised, image_number, count_judged, pair_at, pairs_from, end_judged, pairs_of, decoded_from, decoded, instructions_read, judged, read_image, is_writable, are_writable, has_image, Accepted, ImagesAndScripts, OneImage}
 use Rattle.script.specs.Held.{list_of}
 use Rattle.script.specs.Calls.{held}
 use Rattle.script.proofs.Acceptance.{accepted_parts, parts_accepted, image_parts, parts_image}
@@ -115,7 +116,7 @@ image_accepted bs ps e =
     )
 
 -- the same of instructions
-instruction_accepted : (a : ℕ) (o : Option Instruction) (i : Instruction) → instruction_or a o ≡ Ok i → o ≡ Some i
+instruction_accepted : (a : ℕ) (o : Option Instruction) (i : Instruction) → ok_or o (WrongInstruction a) ≡ Ok i → o ≡ Some i
 instruction_accepted a None i e = let z : ◌≡◌ {A = ℕ} 0 1 = cc in absurd (omega arith)
 instruction_accepted a (Some j) i e = let q : j ≡ i = cc in ap Some q
 
@@ -134,7 +135,7 @@ decoded_accepted : (n a : ℕ) (ps : List (ℕ × ℕ)) (earlier s : List Instru
 unfolding decoded_from
 decoded_accepted n a [] earlier s h e = let q : earlier ≡ s = cc in record { later = []; all = sym (append-nil earlier ∙ q); pairs = refl; writable = refl }
 decoded_accepted n a (p ∷ ps) earlier s h e =
-    let one = then_accepted (instruction_or a (instruction_of n p.0 p.1)) _ s e in
+    let one = then_accepted (ok_or (instruction_of n p.0 p.1) (WrongInstruction a)) _ s e in
     let i = one.0 in
     let here = instruction_accepted a (instruction_of n p.0 p.1) i one.1 in
     let rest = decoded_accepted n (suc a) ps (earlier ++ i ∷ []) s h.2 one.2 in
@@ -234,7 +235,7 @@ writable_decoded n a earlier [] e = ap Ok (sym (append-nil earlier))
 writable_decoded n a earlier (i ∷ is) e =
     let p = and_parts (is_writable n i) (are_writable n is) e in
     let q = and_parts (ltb (code_and_operand n i).1 4294967296) _ p.0 in
-    ap (λ o. and_then (instruction_or a o) (λ i. decoded_from n (suc a) (map (code_and_operand n) is) (earlier ++ i ∷ []))) (instruction_of_its_code n i q.1)
+    ap (λ o. and_then (ok_or o (WrongInstruction a)) (λ i. decoded_from n (suc a) (map (code_and_operand n) is) (earlier ++ i ∷ []))) (instruction_of_its_code n i q.1)
     ∙ writable_decoded n (suc a) (earlier ++ i ∷ []) is p.1
     ∙ ap Ok (append_assoc earlier (i ∷ []) is)
 

@@ -1,5 +1,5 @@
 -- No address outside a script has a partner.
-use Rattle.std.proofs.Common.{◌≡◌, ℕ, zero, suc, ◌<◌, ◌≤◌, Bool, true, false, cond, ◌&&◌, eqb, ltb, ◌≢◌, ◌⊎◌, List, [], ◌∷◌, length, Some, None, sym, refl, ap, ◌∙◌, inl, inr, ⊎_elim, arith}
+use Rattle.std.proofs.Common.{◌≡◌, ℕ, zero, suc, ◌<◌, ◌≤◌, Bool, true, false, cond, ◌&&◌, eqb, ltb, ◌≢◌, ◌⊎◌, List, [], ◌∷◌, length, Some, None, refl, ap, ◌∙◌, inl, inr, ⊎_elim, arith}
 use Rattle.std.proofs.lemmas.Bool.{ne_eqb}
 use Rattle.instruction.specs.declared.instruction.Instruction.{Instruction}
 use Rattle.script.specs.declared.role.FrameKind.{FrameKind}
@@ -10,7 +10,8 @@ use Rattle.script.specs.declared.frames.Frame.{Frame}
 use Rattle.script.specs.Roles.{same_kind}
 use Rattle.script.specs.Frames.{role_at, opened, right_count, without, open_after, beside, fresh}
 use Rattle.script.specs.Linking.{OpenedBefore}
-use Rattle.script.specs.Regions.{or_none, open_before, closed_by, paired, partner_before, partner}
+use Rattle.script.specs.Calls.{some_address, partner_of}
+use Rattle.script.specs.Regions.{or_none, open_before, closed_by, paired, partner_before}
 
 opened_on : (b : ℕ) (fs : List Frame) → OpenedBefore b fs → OpenedBefore (suc b) fs
 opened_on b [] h = tt
@@ -72,5 +73,8 @@ partnerless_before s a (suc (suc b)) l o =
     paired_outside (role_at s (suc b)) (open_before s (suc b)) (suc b) a (partner_before s (suc b) a) (open_opened_before s (suc b)) (⊎_elim (λ z. inl z) (λ g. inr (omega arith)) o) (omega arith)
     ∙ partnerless_before s a (suc b) (omega arith) o
 
-pub partnerless_outside : (s : List Instruction) (a : ℕ) → (a ≡ 0) ⊎ (length s < a) → 0 ≡ partner s a
-partnerless_outside s a o = sym (partnerless_before s a (suc (length s)) (omega arith) o)
+pub partnerless_at_0 : (s : List Instruction) (a : ℕ) → a < 1 → partner_of s a ≡ None
+partnerless_at_0 s a h = ap some_address (partnerless_before s a (suc (length s)) (omega arith) (inl (omega arith)))
+
+pub partnerless_behind : (s : List Instruction) (a : ℕ) → length s < a → partner_of s a ≡ None
+partnerless_behind s a h = ap some_address (partnerless_before s a (suc (length s)) (omega arith) (inr h))

@@ -1,5 +1,5 @@
 -- Images: the count of the instructions, then the code and the operand of each, all as numbers, and no more bytes.
-use Rattle.std.specs.Prelude.{◌≡◌, ℕ, zero, suc, Bool, true, cond, ◌&&◌, List, [], ◌∷◌, ◌++◌, map, length, is_some, is_ok, Some, None, Ok, Err, Option, Result, nat_le, nat_lt}
+use Rattle.std.specs.Prelude.{◌≡◌, ℕ, zero, suc, Bool, true, cond, ◌&&◌, List, [], ◌∷◌, ◌++◌, map, length, is_some, is_ok, ok_or, Ok, Err, Result, nat_le, nat_lt}
 use Rattle.std.specs.List.{flat_map}
 use Rattle.varint.specs.declared.number.Fault.{Fault}
 use Rattle.varint.specs.Writings.{writing}
@@ -69,15 +69,11 @@ pairs_of bs =
     and_then (end_judged bs pairs.1) (λ _.
     Ok pairs.0))))
 
-abbrev pub instruction_or : ℕ → Option Instruction → Result Instruction ImageRefusal
-instruction_or a None = Err (WrongInstruction a)
-instruction_or a (Some i) = Ok i
-
 -- the instructions of pairs, in a script of n instructions, from an address on, behind the earlier ones
 unfoldable pub decoded_from : ℕ → ℕ → List (ℕ × ℕ) → List Instruction → Result (List Instruction) ImageRefusal
 decoded_from n a [] earlier = Ok earlier
 decoded_from n a (p ∷ ps) earlier =
-    and_then (instruction_or a (instruction_of n p.0 p.1)) (λ i. decoded_from n (suc a) ps (earlier ++ i ∷ []))
+    and_then (ok_or (instruction_of n p.0 p.1) (WrongInstruction a)) (λ i. decoded_from n (suc a) ps (earlier ++ i ∷ []))
 
 abbrev pub decoded : List (ℕ × ℕ) → Result (List Instruction) ImageRefusal
 decoded ps = decoded_from (length ps) 1 ps []

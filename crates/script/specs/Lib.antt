@@ -10,5 +10,4 @@ pub mod Flow
 pub mod Held
 pub mod Framing
 pub mod Linking
-pub mod Stages
 pub mod Calls

@@ -8,6 +8,7 @@ mod calls;
 // As many as a script can have.
 pub const MOST_INSTRUCTIONS: usize = 1024;
 
+// The first `count` of the table: a script is `Copy`, which an `ArrayVec` is not.
 #[derive(Clone, Copy)]
 pub struct Instructions {
     items: [Instruction; MOST_INSTRUCTIONS],

@@ -5,24 +5,20 @@ ghost use Rattle.script.specs.Flow.{AcceptedScriptsFlow};
 ghost use Rattle.script.specs.Held.{list_of};
 ghost use Rattle.script.specs.Calls.{held, answered};
 
-use crate::instructions::{Instructions, MOST_INSTRUCTIONS};
+use crate::instructions::Instructions;
 use crate::links::judging::link;
 use crate::pairs::{decode, read_pairs};
 use crate::references::check_references;
 use crate::refusal::ImageRefusal;
 use crate::script::Script;
 
-// The instructions of an image. `read` calls it first, so the laws that it hands on are known on every way out of `read`.
+// The instructions of an image.
 fn read_instructions(bytes: &[u8]) -> Result<Instructions, ImageRefusal>
     ensures answer { held result ≡ instructions_read bytes.now }
     ensures image { IfOk result (λ instructions. has_image (list_of instructions) ≡ true) }
-    ensures back { ImagesAndScripts }
-    ensures unique { OneImage }
-    ensures flow { AcceptedScriptsFlow }
 {
-    let mut table = [(0, 0); MOST_INSTRUCTIONS];
-    let count = read_pairs(&mut table, bytes)?;
-    decode(&table[..count])
+    let pairs = read_pairs(bytes)?;
+    decode(pairs.as_slice())
 }
 
 // The script of instructions that an image can hold.

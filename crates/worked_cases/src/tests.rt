@@ -2,7 +2,6 @@
 use mirror::refusal::MirrorRefusal;
 use mirror::{mirror_size, write_mirror};
 use script::reader::read;
-use std::test::Fail;
 
 const ADDER: [u8; 17] = [8, 13, 1, 9, 40, 2, 0, 1, 2, 6, 0, 3, 0, 10, 40, 14, 1];
 
@@ -25,19 +24,17 @@ fn refused_images_tell_number_and_position(rt: HostRuntime) {
         (&[2, 21, 0, 5, 1], (4, 2)),
     ];
     for (bytes, told) in table {
-        match read(bytes) {
-            Ok(_) => assert!(rt; false),
-            Err(refusal) => assert_eq!(rt; refusal.number_and_position(), told),
-        }
+        let refusal = read(bytes).err();
+        assert_eq!(rt;
+            refusal.map(|refusal| refusal.number_and_position()),
+            Some(told)
+        );
     }
 }
 
 #[test]
-fn a_mirror_is_written_at_the_front_of_a_buffer(rt: HostRuntime) -> Result<(), Fail> {
-    let Ok(script) = read(&ADDER) else {
-        assert!(rt; false);
-        return Ok(());
-    };
+fn a_mirror_is_written_at_the_front_of_a_buffer(rt: HostRuntime) {
+    let script = read(&ADDER).expect(&rt, "the adder is a script");
     assert_eq!(rt; script.count(), 8);
     assert_eq!(rt; mirror_size(&script), 17);
     let mut buffer = [7u8; 18];
@@ -52,5 +49,4 @@ fn a_mirror_is_written_at_the_front_of_a_buffer(rt: HostRuntime) -> Result<(), F
         Err(MirrorRefusal::BufferTooShort)
     );
     assert_eq!(rt; short, [7u8; 16]);
-    Ok(())
 }

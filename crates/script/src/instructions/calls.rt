@@ -8,7 +8,7 @@ use crate::role::{Role, role_of};
 use instruction::instruction::Instruction;
 
 impl Instructions {
-    pub(crate) fn none() -> Instructions
+    pub(crate) fn new() -> Instructions
         ensures { list_of result ≡ [] }
     {
         Instructions {
@@ -36,10 +36,11 @@ impl Instructions {
     pub(crate) fn at(&self, address: usize) -> Instruction
         ensures { result ≡ instruction_at (list_of self.now) address }
     {
-        if address == 0 || address > self.count {
-            return Instruction::Nop;
-        }
-        self.items[address - 1]
+        address
+            .checked_sub(1)
+            .and_then(|place| self.as_slice().get(place))
+            .copied()
+            .unwrap_or(Instruction::Nop)
     }
 
     pub(crate) fn role(&self, address: usize) -> Role
@@ -49,7 +50,7 @@ impl Instructions {
     }
 
     // One more.
-    pub(crate) fn add(&mut self, instruction: Instruction)
+    pub(crate) fn push(&mut self, instruction: Instruction)
         requires { length (list_of self.old) < 1024 }
         ensures { list_of self.new ≡ list_of self.old ++ instruction ∷ [] }
     {

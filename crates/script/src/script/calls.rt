@@ -1,8 +1,7 @@
 ghost use Rattle.std.specs.Prelude.{◌≡◌, ◌≤◌, length};
 ghost use Rattle.script.specs.Scripts.{instruction_at};
-ghost use Rattle.script.specs.Regions.{partner};
 ghost use Rattle.script.specs.Images.{Accepted};
-ghost use Rattle.script.specs.Calls.{instructions_of};
+ghost use Rattle.script.specs.Calls.{instructions_of, partner_of};
 
 use super::Script;
 use instruction::instruction::Instruction;
@@ -31,13 +30,13 @@ impl Script {
         self.instructions.at(address)
     }
 
-    // The address of the closer that belongs to the opener at an address, or the other way round; 0 where neither stands there.
-    pub fn partner(&self, address: usize) -> usize
-        ensures { result ≡ partner (instructions_of self.now) address }
+    // The address of the closer that belongs to the opener at an address, or the other way round, where either stands there.
+    #[tactic(auto, using(crate::proofs::Outside::partnerless_at_0, crate::proofs::Outside::partnerless_behind))]
+    pub fn partner(&self, address: usize) -> Option<usize>
+        ensures { result ≡ partner_of (instructions_of self.now) address }
     {
-        if address == 0 || address > self.count() {
-            return 0;
-        }
-        usize::from(self.partners[address - 1])
+        let place = address.checked_sub(1)?;
+        let partner = usize::from(*self.partners[..self.count()].get(place)?);
+        if partner > 0 { Some(partner) } else { None }
     }
 }
