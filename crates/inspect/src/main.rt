@@ -2,39 +2,35 @@
 #![tactic(auto)]
 
 use entries::entries_in;
-use failure::{Failure, USAGE};
 use journal::entry::Entry;
-use program_input::{Request, asked};
+use journal::refusal::LayRefusal;
+use program_input::failure::Failure;
+use program_input::{asked, ended};
 use report::line::lines;
 use report::owner::Owner;
+use std::io;
 use std::process::ExitCode;
 use tally::{Share, Tally};
 
 mod entries;
-mod failure;
 
-// A failure is told in its own words, and ends the program with status 1 even where it cannot be told.
+const USAGE: &str = "usage: inspect [FILE]\n\
+Shows the entries of a packed journal, the newest first, and counts them.\n\
+With no FILE it reads standard input.";
+
 fn main(rt: HostRuntime) -> ExitCode {
-    let Err(failure) = run(&rt) else {
-        return ExitCode::SUCCESS;
-    };
-    let _ = eprintln!(rt; "{failure}");
-    ExitCode::FAILURE
+    ended(&rt, run(&rt))
 }
 
-fn run(rt: &HostRuntime) -> Result<(), Failure> {
-    let mut bytes = match asked(rt, USAGE)? {
-        Request::Bytes(bytes) => bytes,
-        Request::Help => {
-            rt.println(USAGE)?;
-            return Ok(());
-        }
+fn run(rt: &HostRuntime) -> Result<(), Failure<LayRefusal>> {
+    let Some(mut bytes) = asked(rt, USAGE)? else {
+        return Ok(());
     };
     let entries = entries_in(rt.alloc(), bytes.as_mut_slice())?;
     show(rt, entries.as_slice(), bytes.len())
 }
 
-fn show(rt: &HostRuntime, entries: &[Entry], bytes: usize) -> Result<(), Failure> {
+fn show(rt: &HostRuntime, entries: &[Entry], bytes: usize) -> Result<(), Failure<LayRefusal>> {
     let lines = lines(rt.alloc(), entries)?;
     let tally = Tally::of(rt.alloc(), entries)?;
     let count = entries.len();
@@ -47,10 +43,11 @@ fn show(rt: &HostRuntime, entries: &[Entry], bytes: usize) -> Result<(), Failure
         println!(rt; "{line}")?;
     }
     println!(rt)?;
-    show_tally(rt, &tally)
+    show_tally(rt, &tally)?;
+    Ok(())
 }
 
-fn show_tally(rt: &HostRuntime, tally: &Tally) -> Result<(), Failure> {
+fn show_tally(rt: &HostRuntime, tally: &Tally) -> io::Result<()> {
     for (number, entries) in tally.processes.iter() {
         let share = Share {
             owner: Owner::Process(*number),

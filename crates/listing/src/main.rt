@@ -1,50 +1,41 @@
 // Shows a script and its mirrored script, an instruction to a line.
 #![tactic(auto)]
 
-use failure::{Failure, USAGE};
 use mirror::mirror_size;
-use program_input::{Request, asked};
+use program_input::failure::Failure;
+use program_input::{asked, ended};
 use script::reader::read;
+use script::refusal::ImageRefusal;
 use script_words::line::lines;
 use script_words::mirror_line::mirror_lines;
 use std::fmt::Display;
+use std::io;
 use std::process::ExitCode;
 
-mod failure;
+const USAGE: &str = "usage: listing [FILE]\n\
+Shows the instructions of a script and of its mirrored script.\n\
+FILE is an image; with no FILE it reads standard input.";
 
-// A failure is told in its own words, and ends the program with status 1 even where it cannot be told.
 fn main(rt: HostRuntime) -> ExitCode {
-    let Err(failure) = run(&rt) else {
-        return ExitCode::SUCCESS;
-    };
-    let _ = eprintln!(rt; "{failure}");
-    ExitCode::FAILURE
+    ended(&rt, run(&rt))
 }
 
-fn run(rt: &HostRuntime) -> Result<(), Failure> {
-    let bytes = match asked(rt, USAGE)? {
-        Request::Bytes(bytes) => bytes,
-        Request::Help => {
-            rt.println(USAGE)?;
-            return Ok(());
-        }
+fn run(rt: &HostRuntime) -> Result<(), Failure<ImageRefusal>> {
+    let Some(bytes) = asked(rt, USAGE)? else {
+        return Ok(());
     };
     let heap = rt.alloc();
-    let script = read(bytes.as_slice())?;
+    let script = read(bytes.as_slice()).map_err(Failure::Refused)?;
     let forward = lines(heap, &script)?;
     let mirrored = mirror_lines(heap, &script)?;
     show(rt, "script", forward.as_slice(), bytes.len())?;
     println!(rt)?;
-    show(rt, "mirror", mirrored.as_slice(), mirror_size(&script))
+    show(rt, "mirror", mirrored.as_slice(), mirror_size(&script))?;
+    Ok(())
 }
 
 // A heading, and the lines below it.
-fn show<L: Display>(
-    rt: &HostRuntime,
-    title: &str,
-    lines: &[L],
-    bytes: usize,
-) -> Result<(), Failure> {
+fn show<L: Display>(rt: &HostRuntime, title: &str, lines: &[L], bytes: usize) -> io::Result<()> {
     let count = lines.len();
     println!(rt; "{title}: instructions {count}, bytes {bytes}")?;
     println!(rt)?;

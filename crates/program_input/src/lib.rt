@@ -1,59 +1,52 @@
-// What a program that shows bytes is asked for: the bytes of the file that its one word names, or else of standard input.
+// What a program that shows bytes is asked for, and how it ends.
 #![tactic(auto)]
 
+ghost use Rattle.std.specs.Prelude.{◌≡◌, MatchResult};
+ghost use Rattle.std.specs.Process.{exit_status};
+
+use failure::Failure;
 use std::io::Read;
-use std::{env, fmt, fs, io};
+use std::process::ExitCode;
+use std::{env, fmt, fs};
 
-#[derive(Drop)]
-pub enum Request {
-    Bytes(Vec<u8>),
-    Help,
-}
+pub mod failure;
 
-#[derive(Drop)]
-pub enum InputFailure {
-    // Words that ask for nothing; the program's usage answers them.
-    Usage(&'static str),
-    Unread(String, io::Error),
-    System(io::Error),
-}
-
-impl From<io::Error> for InputFailure {
-    fn from(error: io::Error) -> InputFailure {
-        InputFailure::System(error)
-    }
-}
-
-impl fmt::Display for InputFailure {
-    fn fmt<W: fmt::Write>(&self, f: &mut fmt::Formatter<W>) -> fmt::Result {
-        match self {
-            InputFailure::Usage(usage) => f.write_str(usage),
-            InputFailure::Unread(name, error) => write!(f, "{name}: {error}"),
-            InputFailure::System(error) => write!(f, "{error}"),
-        }
-    }
-}
-
-// What the words behind the program's name ask for.
-pub fn asked(rt: &HostRuntime, usage: &'static str) -> Result<Request, InputFailure> {
+// The bytes that the words behind the program's name ask for: those of the file that its one word names, or else of standard input.
+// None where they ask for help, which is the usage, and has been printed.
+pub fn asked<R: Drop>(
+    rt: &HostRuntime,
+    usage: &'static str,
+) -> Result<Option<Vec<u8>>, Failure<R>> {
     let mut words = env::args(rt)?.skip(1);
     let Some(word) = words.next() else {
-        return Ok(Request::Bytes(standard_input(rt)?));
+        return Ok(Some(standard_input(rt)?));
     };
     if words.next().is_some() {
-        return Err(InputFailure::Usage(usage));
+        return Err(Failure::Usage(usage));
     }
     if word.as_str() == "--help" {
-        return Ok(Request::Help);
+        rt.println(usage)?;
+        return Ok(None);
     }
     match fs::read(rt, word.as_str()) {
-        Ok(bytes) => Ok(Request::Bytes(bytes)),
-        Err(error) => Err(InputFailure::Unread(word, error)),
+        Ok(bytes) => Ok(Some(bytes)),
+        Err(error) => Err(Failure::Unread(word, error)),
     }
 }
 
-fn standard_input(rt: &HostRuntime) -> Result<Vec<u8>, InputFailure> {
+fn standard_input<R: Drop>(rt: &HostRuntime) -> Result<Vec<u8>, Failure<R>> {
     let mut bytes = Vec::new(rt.alloc());
     rt.stdin().read_to_end(&mut bytes)?;
     Ok(bytes)
+}
+
+// A failure is told in its own words, and ends the program with status 1 even where it cannot be told.
+pub fn ended<R: fmt::Display + Drop>(rt: &HostRuntime, outcome: Result<(), Failure<R>>) -> ExitCode
+    ensures { MatchResult outcome (λ _. exit_status result ≡ 0) (λ _. exit_status result ≡ 1) }
+{
+    let Err(failure) = outcome else {
+        return ExitCode::SUCCESS;
+    };
+    let _ = eprintln!(rt; "{failure}");
+    ExitCode::FAILURE
 }
