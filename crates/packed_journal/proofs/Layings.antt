@@ -13,9 +13,9 @@ use Rattle.journal.specs.declared.refusal.LayRefusal.TheVariants.{UsedBeyondEnd}
 use Rattle.entry_codec.specs.Reading.{and_then, entry_at}
 use Rattle.entry_codec.specs.Writing.{entry_bytes}
 use Rattle.entry_codec.proofs.EntryReads.{read_entry_bytes, bytes_read, forward_read}
-use Rattle.packed_journal.specs.Packing.{packed, entries_of, foreign}
+use Rattle.packed_journal.specs.Packing.{packed, entries_of}
 use Rattle.packed_journal.specs.Laying.{read_from, read_all, laid, YieldEachOtherBack, OneWriting}
-use Rattle.packed_journal.proofs.Packs.{entry_long, entries_of_packed, foreign_and_own}
+use Rattle.packed_journal.proofs.Packs.{entry_long, entries_of_packed}
 
 -- a number ends before entries
 ends_before_entry : (e : Entry) (xs : List ℕ) → Ends (entry_bytes e ++ xs)
@@ -106,13 +106,13 @@ all_written bs es e =
     let r = read_sound (length bs) bs 0 [] es (omega arith) e in
     r.bytes ∙ ap (flat_map entry_bytes) (sym (reverse-reverse r.newer) ∙ ap reverse (sym (r.list ∙ append-nil (reverse r.newer))))
 
--- what was read is what the bytes hold, and no byte is foreign
-pub read_is_held : (bs : List ℕ) (es : List Entry) → read_all bs ≡ Ok es → (read_all bs ≡ Ok (entries_of bs)) × (bs ≡ packed (entries_of bs)) × (foreign bs ≡ 0)
+-- what was read is what the bytes hold
+pub read_is_held : (bs : List ℕ) (es : List Entry) → read_all bs ≡ Ok es → (read_all bs ≡ Ok (entries_of bs)) × (bs ≡ packed (entries_of bs))
 read_is_held bs es e =
     let w = all_written bs es e in
     let h : es ≡ entries_of bs = sym (ap entries_of w ∙ entries_of_packed es) in
     let own : bs ≡ packed (entries_of bs) = w ∙ ap packed h in
-    (e ∙ ap Ok h, own, omega (arith, foreign_and_own bs, ap length own))
+    (e ∙ ap Ok h, own)
 
 used_within : (bs : List ℕ) (used : ℕ) (es : List Entry) → laid bs used ≡ Ok es → (used ≤ length bs) × (read_all (take used bs) ≡ Ok es)
 used_within bs used es e =

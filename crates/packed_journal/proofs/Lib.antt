@@ -2,4 +2,3 @@ pub mod Lasts
 pub mod Packs
 pub mod Layings
 pub mod Changes
-pub mod Sizes

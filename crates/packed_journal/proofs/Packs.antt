@@ -2,17 +2,17 @@
 use Rattle.std.proofs.Common.{◌≡◌, ℕ, zero, suc, ◌+◌, ◌<◌, ◌≤◌, List, [], ◌∷◌, ◌++◌, reverse, length, take, Some, None, Option, sym, refl, ap, ◌∙◌, arith}
 use mathlib.Core.List.{reverse-append}
 use Rattle.std.specs.List.{flat_map}
-use Rattle.std.proofs.lemmas.List.{append_assoc, append-nil, drop_at, length-append, length-take, nil_from_length, take_all, take_at, take-take, flat_map_more}
+use Rattle.std.proofs.lemmas.List.{append-nil, drop_at, length-append, length-take, nil_from_length, take_at, flat_map_more}
 use Rattle.varint.proofs.Writings.{size_least}
 use Rattle.journal.specs.declared.entry.Entry.{Entry}
 use Rattle.entry_codec.specs.Writing.{entry_bytes}
 use Rattle.entry_codec.proofs.EntryReads.{read_entry_bytes}
 use Rattle.entry_codec.proofs.EntryWrites.{length_entry}
 use Rattle.packed_journal.specs.declared.last.Last.{Last}
-use Rattle.packed_journal.specs.Packing.{packed, last_entry, last_start, entries_before, entries_within, entries_of, foreign}
+use Rattle.packed_journal.specs.Packing.{packed, last_entry, last_start, entries_before, entries_within, entries_of}
 use Rattle.packed_journal.proofs.Lasts.{read_is_last, last_bytes}
 
-packed_push : (e : Entry) (es : List Entry) → packed (e ∷ es) ≡ packed es ++ entry_bytes e
+pub packed_push : (e : Entry) (es : List Entry) → packed (e ∷ es) ≡ packed es ++ entry_bytes e
 unfolding packed
 packed_push e es = ap (flat_map entry_bytes) (reverse-append (e ∷ []) es) ∙ sym (flat_map_more entry_bytes [] (reverse es) e)
 
@@ -81,53 +81,3 @@ pub entries_of_packed : (es : List Entry) → entries_of (packed es) ≡ es
 unfolding packed entries_of entries_within
 entries_of_packed [] = refl
 entries_of_packed (e ∷ es) = ap entries_of (packed_push e es) ∙ entries_of_pushed (packed es) e ∙ ap (λ t. e ∷ t) (entries_of_packed es)
-
--- the entries take no more bytes than there are
-held_within_by : (bs : List ℕ) (o : Option Last) → last_entry bs ≡ o → ((rs : List ℕ) → length rs < length bs → length (packed (entries_of rs)) ≤ length rs) → length (packed (entries_of bs)) ≤ length bs
-unfolding packed
-held_within_by bs None e more = omega (arith, ap (λ t. length (packed t)) (entries_none bs e))
-held_within_by bs (Some l) e more =
-    let h = last_before bs l e in
-    let r = more (take l.start bs) (omega (arith, h.0, h.1)) in
-    omega (arith, h.1, h.2, ap (λ t. length (packed t)) (entries_some bs l e), length_packed_push l.entry (entries_of (take l.start bs)))
-
-held_within : (f : ℕ) (bs : List ℕ) → length bs ≤ f → length (packed (entries_of bs)) ≤ length bs
-held_within zero bs h = held_within_by bs (last_entry bs) refl (λ rs l. absurd (omega arith))
-held_within (suc f) bs h = held_within_by bs (last_entry bs) refl (λ rs l. held_within f rs (omega arith))
-
-pub foreign_and_own : (bs : List ℕ) → foreign bs + length (packed (entries_of bs)) ≡ length bs
-foreign_and_own bs = omega (arith, held_within (length bs) bs (omega arith))
-
--- foreign bytes stay, whatever is pushed or popped
-pub foreign_of_popped : (bs : List ℕ) (l : Last) → last_entry bs ≡ Some l → foreign (take l.start bs) ≡ foreign bs
-foreign_of_popped bs l e =
-    let h = last_before bs l e in
-    omega (arith, h.1, h.2, ap (λ t. length (packed t)) (entries_some bs l e), length_packed_push l.entry (entries_of (take l.start bs)))
-
-pub foreign_of_pushed : (bs : List ℕ) (e : Entry) → foreign (bs ++ entry_bytes e) ≡ foreign bs
-foreign_of_pushed bs e =
-    omega (arith, length-append bs (entry_bytes e), ap (λ t. length (packed t)) (entries_of_pushed bs e), length_packed_push e (entries_of bs))
-
--- the foreign bytes come first, and then the entries' own
-before_own_by : (bs : List ℕ) (o : Option Last) → last_entry bs ≡ o → ((rs : List ℕ) → length rs < length bs → rs ≡ take (foreign rs) rs ++ packed (entries_of rs)) → bs ≡ take (foreign bs) bs ++ packed (entries_of bs)
-unfolding packed
-before_own_by bs None e more =
-    let none = entries_none bs e in
-    let all : length bs ≤ foreign bs = omega (arith, ap (λ t. length (packed t)) none) in
-    sym (ap (λ t. take (foreign bs) bs ++ packed t) none ∙ append-nil (take (foreign bs) bs) ∙ take_all (foreign bs) bs all)
-before_own_by bs (Some l) e more =
-    let h = last_before bs l e in
-    let rs : List ℕ = take l.start bs in
-    let f : foreign (take l.start bs) ≡ foreign bs = foreign_of_popped bs l e in
-    let k : foreign bs ≤ l.start = omega (arith, f, h.1, foreign_and_own (take l.start bs)) in
-    let front : take (foreign rs) rs ≡ take (foreign bs) bs = ap (λ n. take n rs) f ∙ take-take (foreign bs) l.start bs k in
-    last_bytes bs l e ∙ ap (λ t. t ++ entry_bytes l.entry) (more rs (omega (arith, h.0, h.1)) ∙ ap (λ t. t ++ packed (entries_of rs)) front)
-    ∙ append_assoc (take (foreign bs) bs) (packed (entries_of rs)) (entry_bytes l.entry)
-    ∙ ap (λ t. take (foreign bs) bs ++ t) (sym (packed_push l.entry (entries_of rs)) ∙ ap packed (sym (entries_some bs l e)))
-
-before_own : (f : ℕ) (bs : List ℕ) → length bs ≤ f → bs ≡ take (foreign bs) bs ++ packed (entries_of bs)
-before_own zero bs h = before_own_by bs (last_entry bs) refl (λ rs l. absurd (omega arith))
-before_own (suc f) bs h = before_own_by bs (last_entry bs) refl (λ rs l. before_own f rs (omega arith))
-
-pub foreign_before_own : (bs : List ℕ) → bs ≡ take (foreign bs) bs ++ packed (entries_of bs)
-foreign_before_own bs = before_own (length bs) bs (omega arith)

@@ -4,7 +4,7 @@ use Rattle.journal.specs.declared.entry.Entry.{Entry}
 use Rattle.journal.specs.declared.refusal.LayRefusal.{LayRefusal}
 use Rattle.journal.specs.declared.refusal.LayRefusal.TheVariants.{UsedBeyondEnd}
 use Rattle.entry_codec.specs.Reading.{and_then, entry_at}
-use Rattle.packed_journal.specs.Packing.{packed, bytes_fit, entries_of, shown, foreign, room}
+use Rattle.packed_journal.specs.Packing.{packed, entries_of, shown}
 
 -- the entries from a place on, at most `most` of them, on top of the older ones; or the first refusal
 unfoldable pub read_from : ℕ → List ℕ → ℕ → List Entry → Result (List Entry) LayRefusal
@@ -21,14 +21,13 @@ laid bs used = cond (nat_le used (length bs)) (read_all (take used bs)) (Err (Us
 
 -- what is known where bytes were read through
 abbrev pub ReadOn : {J : Type 0} → List ℕ → Result J LayRefusal → Type 0
-ReadOn held (Ok j) = (read_all held ≡ Ok (entries_of held)) × (held ≡ packed (entries_of held)) × (foreign held ≡ 0)
+ReadOn held (Ok j) = (read_all held ≡ Ok (entries_of held)) × (held ≡ packed (entries_of held))
 ReadOn held (Err refusal) = read_all held ≡ Err refusal
 
--- a journal on the first `used` bytes would show what they are read as and are the writing of, and a list would fit it where its bytes do
+-- a journal on the first `used` bytes would show what they are read as and are the writing of
 pub record CanBeLaid (bs : List ℕ) (used : ℕ) : Type 0 where
   pub list : laid bs used ≡ Ok (shown used bs)
   pub writing : take used bs ≡ packed (shown used bs)
-  pub rule : room used bs ≡ bytes_fit (length bs)
 
 -- what asking answers: that, or the refusal that the rules give
 abbrev pub Asked : List ℕ → ℕ → Result (Unit {0}) LayRefusal → Type 0

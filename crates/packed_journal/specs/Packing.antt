@@ -1,5 +1,5 @@
 -- A list of entries as bytes, and the list that used bytes hold.
-use Rattle.std.specs.Prelude.{ℕ, zero, suc, ◌+◌, ◌-◌, Bool, cond, List, [], ◌∷◌, reverse, length, take, Some, None, Ok, Err, Option, Result, nat_le, nat_lt, slice_index}
+use Rattle.std.specs.Prelude.{ℕ, zero, suc, Bool, cond, List, [], ◌∷◌, reverse, length, take, Some, None, Ok, Err, Option, Result, nat_le, nat_lt, slice_index}
 use Rattle.std.specs.List.{flat_map}
 use Rattle.journal.specs.declared.entry.Entry.{Entry}
 use Rattle.journal.specs.declared.refusal.LayRefusal.{LayRefusal}
@@ -55,11 +55,3 @@ entries_of bs = entries_within (length bs) bs
 -- what a journal with so many used bytes of bs shows
 abbrev pub shown : ℕ → List ℕ → List Entry
 shown used bs = entries_of (take used bs)
-
--- how many of the used bytes belong to no entry: none where the journal was laid
-abbrev pub foreign : List ℕ → ℕ
-foreign held = length held - length (packed (entries_of held))
-
--- which lists fit it
-abbrev pub room : ℕ → List ℕ → List Entry → Bool
-room used bs es = nat_le (foreign (take used bs) + length (packed es)) (length bs)

@@ -1,12 +1,12 @@
 // A journal in lent bytes, the oldest entry first.
 #![tactic(auto)]
 
-ghost use Rattle.std.specs.Prelude.{◌≡◌, min, length, take, IfOk, IfErr, Err, OnErr, OnOk};
+ghost use Rattle.std.specs.Prelude.{◌≡◌, ◌≤◌, length, take, IfOk, IfErr, Err, OnErr, OnOk};
 ghost use Rattle.journal.specs.Meaning.{push_answer, pushed, newest_of, older_of};
 ghost use Rattle.varint.specs.Written.{Written};
 ghost use Rattle.entry_codec.specs.Writing.{entry_bytes};
+ghost use Rattle.packed_journal.specs.Packing.{packed, shown};
 ghost use Rattle.packed_journal.specs.Laying.{laid, Asked, YieldEachOtherBack, OneWriting};
-ghost use Rattle.packed_journal.specs.Calls.{bytes_of, list_of, rule_of, LaidOn, LastOf, Appended, PlainlyPacked};
 
 use entry_codec::write_entry;
 use journal::entry::Entry;
@@ -18,11 +18,14 @@ use laying::read_through;
 mod last;
 mod laying;
 
-// Entries in lent bytes, of which the first `used` hold them.
+// Entries in lent bytes, of which the first `used` hold them. The bytes are lent, so the count stands beside them.
 #[derive(Drop)]
 pub struct PackedJournal<'a> {
     bytes: &'a mut [u8],
     used: usize,
+    ghost within: { used ≤ length bytes.now },
+    // the used bytes are the writing of the entries that they hold
+    ghost own: { take used bytes.now ≡ packed (shown used bytes.now) },
 }
 
 // Whether a journal can be laid on bytes of which the first `used` hold entries already.
@@ -34,11 +37,12 @@ pub fn ask(bytes: &[u8], used: usize) -> Result<(), LayRefusal>
     if used > bytes.len() {
         return Err(LayRefusal::UsedBeyondEnd(bytes.len()));
     }
-    let held = &bytes[0..used];
-    read_through(held)
+    read_through(&bytes[..used])
 }
 
 impl<'a> PackedJournal<'a> {
+    ghost use Rattle.packed_journal.specs.Calls.{bytes_of, list_of, LaidOn, LastOf};
+
     // The journal on bytes of which the first `used` hold entries already, or the bytes back.
     pub fn lay(bytes: &'a mut [u8], used: usize) -> Result<PackedJournal<'a>, Refused<&'a mut [u8]>>
         ensures journal { IfOk result (λ j. LaidOn bytes.old used j) }
@@ -55,12 +59,12 @@ impl<'a> PackedJournal<'a> {
         }
     }
 
-    // The bytes that hold the entries. They are the writing of the list as long as the rule is the plain one, as `lay` has it.
+    // The bytes that hold the entries: the writing of the list.
     pub fn used_bytes(&self) -> &[u8]
         ensures bytes { result.now ≡ take self.now.used (bytes_of self.now) }
-        ensures writing { PlainlyPacked (bytes_of self.now) self.now.used result.now }
+        ensures writing { result.now ≡ packed (list_of self.now) }
     {
-        front(self.bytes, self.used)
+        &self.bytes[..self.used]
     }
 
     fn last(&self) -> Option<Last>
@@ -70,26 +74,9 @@ impl<'a> PackedJournal<'a> {
     }
 }
 
-// The first bytes, at most so many.
-fn front(bytes: &[u8], most: usize) -> &[u8]
-    ensures bytes { result.now ≡ take most bytes.now }
-    ensures writing { PlainlyPacked bytes.now most result.now }
-{
-    &bytes[0..most.min(bytes.len())]
-}
-
-// Writes an entry behind the used bytes, and answers how many are used then.
-fn append(bytes: &mut [u8], used: usize, entry: Entry) -> Result<usize, Full>
-    ensures { Appended bytes.old used entry result bytes.new }
-{
-    let at = used.min(bytes.len());
-    match write_entry(bytes, at, entry) {
-        Ok(end) => Ok(end),
-        Err(_) => Err(Full),
-    }
-}
-
 impl<'a> Journal for PackedJournal<'a> {
+    ghost use Rattle.packed_journal.specs.Calls.{bytes_of, list_of, rule_of};
+
     ghost entries = { list_of };
 
     ghost fits = { rule_of };
@@ -100,10 +87,12 @@ impl<'a> Journal for PackedJournal<'a> {
         ensures list { list_of self.new ≡ pushed (rule_of self.old) (list_of self.old) entry }
         ensures rule { rule_of self.new ≡ rule_of self.old }
         ensures full { OnErr result (self.new ≡ self.old) }
-        ensures bytes { OnOk result (Written (bytes_of self.old) (min self.old.used (length (bytes_of self.old))) (entry_bytes entry) self.new.used (bytes_of self.new)) }
+        ensures bytes { OnOk result (Written (bytes_of self.old) self.old.used (entry_bytes entry) self.new.used (bytes_of self.new)) }
     {
-        let used = self.used;
-        self.used = append(self.bytes, used, entry)?;
+        let Ok(end) = write_entry(self.bytes, self.used, entry) else {
+            return Err(Full);
+        };
+        self.used = end;
         Ok(())
     }
 

@@ -28,15 +28,13 @@ pub fn through_two_layers(slots: &mut [Entry], entry: Entry) -> Option<Entry>
     ensures { result ≡ (if nat_le 1 (length slots.old) then Some entry else None) }
 {
     let Ok(lower) = Delta::lay(SlotJournal::new(slots)) else {
-        unreachable()
+        unreachable!()
     };
     let Ok(mut upper) = Delta::lay(lower) else {
-        unreachable()
+        unreachable!()
     };
-    match upper.push(entry) {
-        Ok(()) => upper.pop(),
-        Err(_) => None,
-    }
+    upper.push(entry).ok()?;
+    upper.pop()
 }
 
 #[cfg(test)]

@@ -5,4 +5,6 @@ use Rattle.packed_journal.proofs.Changes.{last_of}
 use Rattle.packed_journal.proofs.PackedJournal.last.Goals as goal
 
 pub returns : goal.returns
-returns c = last_of c.args.self.now.bytes.now c.args.self.now.used _ (c.last_entry.ensures ∙ ap last_entry c.used_bytes.ensures.bytes)
+returns c =
+    let j = c.args.self.now in
+    last_of j.bytes.now j.used _ j.within j.own (c.last_entry.ensures ∙ ap last_entry c.used_bytes.ensures.bytes)

@@ -1,6 +1,6 @@
 -- What has been moved and what is left are the whole.
 use Rattle.std.proofs.Common.{◌≡◌, ◌++◌, length, vec_items}
-use Rattle.batch.proofs.move_all.Given as goal
+use Rattle.batch.proofs.into_entries.Given as goal
 
 abbrev pub invariant-loop-entry : goal.invariant-loop-entry
 invariant-loop-entry g l =

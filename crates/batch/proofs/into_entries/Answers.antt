@@ -1,7 +1,7 @@
 -- The newest entry moves behind those moved before.
 use Rattle.std.proofs.Common.{vec_items}
 use Rattle.batch.proofs.Steps.{newest_moves_behind}
-use Rattle.batch.proofs.move_all.Goals as goal
+use Rattle.batch.proofs.into_entries.Goals as goal
 
 pub loop-entry-preserved : goal.loop-entry-preserved
 loop-entry-preserved g c =
