@@ -1,5 +1,5 @@
 -- The frames that stand open at each address, if those of the whole script are judged to be right.
-use Rattle.std.proofs.Common.{◌≡◌, ℕ, zero, suc, ◌+◌, ◌<◌, ◌≤◌, Bool, true, false, cond, ◌&&◌, ltb, List, [], ◌∷◌, length, Some, None, Ok, Option, Result, refl, ap, subst, ⊎_elim, add-zero, one-add, arith}
+use Rattle.std.proofs.Common.{◌≡◌, ℕ, zero, suc, ◌+◌, ◌<◌, ◌≤◌, Bool, true, false, cond, ◌&&◌, ltb, List, [], ◌∷◌, length, Some, None, Ok, Option, Result, refl, ap, subst, ⊎_elim, one-add, arith}
 use Rattle.std.proofs.lemmas.List.{get_or_past}
 use Rattle.std.proofs.lemmas.Bool.{and_parts, cases_lt}
 use Rattle.instruction.specs.declared.instruction.Instruction.{Instruction}
@@ -9,7 +9,7 @@ use Rattle.script.specs.declared.role.Role.TheVariants.{Plain, JumpsIf, Jumps, A
 use Rattle.script.specs.declared.frames.Frame.{Frame}
 use Rattle.script.specs.declared.refusal.ImageRefusal.{ImageRefusal}
 use Rattle.script.specs.Roles.{arrives, by_framing, same_kind}
-use Rattle.script.specs.Frames.{role_at, beside, fresh, opened, right_count, without, open_after, frames_after, all_closed, go_on, frames_from, frames_judged}
+use Rattle.script.specs.Frames.{role_at, beside, fresh, opened, right_count, without, open_after, frames_after, go_on, frames_from, frames_judged}
 use Rattle.script.specs.Regions.{open_before}
 
 -- before the first instruction and behind the last all is plain
@@ -45,11 +45,7 @@ kept_if_plain s a p = kept_after s a (open_before s a) (rw p)
 -- the frames of the last `left` instructions, from an address on, judged in reading order
 judged_is_kept : (s : List Instruction) (left a : ℕ) → frames_from s left a (open_before s a) ≡ Ok tt → ((b : ℕ) → a ≤ b → b < a + left → Kept s b) × (open_before s (a + left) ≡ [])
 unfolding frames_from
-judged_is_kept s zero a e = ((λ b l u. absurd (omega arith)), rw add-zero (none_left (open_before s a) e))
-  where
-    none_left : (fs : List Frame) → all_closed a fs ≡ Ok tt → fs ≡ []
-    none_left [] e = refl
-    none_left (f ∷ fs) e = absurd (grind arith)
+judged_is_kept s zero a e = grind arith
 judged_is_kept s (suc left) a e =
     let w = went_on a (frames_after s a (open_before s a)) (λ fs. frames_from s left (suc a) fs) e in
     let k = kept_after s a w.0 w.1 in

@@ -9,7 +9,7 @@ use instruction::instruction::Instruction;
 #[derive(Clone, Copy, Default, PartialEq, Eq, Debug)]
 pub(crate) enum FrameKind {
     Procedure(u8), // from proc to p_return
-    #[default]
+    #[default] // what an unused place of the open frames holds
     Branch, // from par begin to par end
     Forked(u8), // from fork to merge
 }
