@@ -24,7 +24,7 @@ unfolding region
 closer_region l = rw (l.closer, l.before, l.opener)
 
 right_count_is_two_to_seven : (n k : ℕ) → right_count (Forked n) k ≡ true → (2 ≤ k) × (k ≤ 7)
-right_count_is_two_to_seven n k e = (grind arith, grind arith)
+right_count_is_two_to_seven n k e = grind arith
 
 -- a branch that stands between a and m
 record Within (s : List Instruction) (a m begin end : ℕ) : Type 0 where
@@ -43,17 +43,12 @@ record Listed (s : List Instruction) (a m k : ℕ) (bs : List (ℕ × ℕ)) : Ty
   pub each : (j : ℕ) → j < length bs → Within s a m (get_or bs j (0, 0)).0 (get_or bs j (0, 0)).1
 
 one_more_listed : (s : List Instruction) (a c m k : ℕ) (bs : List (ℕ × ℕ)) → Closed s Branch a c → Chain s (suc c) k m → Listed s (suc c) m k bs → Listed s a m (suc k) ((a, c) ∷ bs)
-one_more_listed s a c m k bs l rest others = record { count = ap suc others.count; directly = others.directly; each = each }
-  where
-    each : (j : ℕ) → j < suc (length bs) → Within s a m (get_or ((a, c) ∷ bs) j (0, 0)).0 (get_or ((a, c) ∷ bs) j (0, 0)).1
-    each zero h = record { behind = omega arith; whole = l; ahead = omega (arith, chain_is_long rest) }
-    each (suc j) h = let w = others.each j (omega arith) in record { behind = omega (arith, w.behind, l.order); whole = w.whole; ahead = w.ahead }
+one_more_listed s a c m k bs l rest others = grind arith
 
 module _ (s : List Instruction) (judged : frames_judged s ≡ Ok tt) where
   no_branch_here : (a most : ℕ) → begins_branch (role_at s a) ≡ false → branches_from s most a ≡ []
   unfolding branches_from
-  no_branch_here a zero b = refl
-  no_branch_here a (suc most) b = rw b
+  no_branch_here a most b = grind arith
 
   branch_here : (a c most : ℕ) → Closed s Branch a c → branches_from s (suc most) a ≡ (a, c) ∷ branches_from s most (suc c)
   unfolding branches_from

@@ -1,15 +1,14 @@
 -- The tables keep pace with the frames that are judged.
-use Rattle.std.proofs.Common.{◌≡◌, ℕ, suc, ◌+◌, ◌-◌, ◌<◌, ◌≤◌, true, false, eqb, List, [], ◌∷◌, length, get_or, set, replicate, Some, None, Ok, Err, Option, sym, refl, ap, ◌∙◌, subst, add-one, ⊎_elim, arith}
-use Rattle.std.proofs.lemmas.List.{get_or-set_same, get_or-set_other, get_or-replicate, length-set}
-use Rattle.std.proofs.lemmas.Bool.{cases_eq, cond-true, cond-false, eq-eqb, ne_eqb}
+use Rattle.std.proofs.Common.{◌≡◌, ℕ, suc, ◌+◌, ◌-◌, ◌<◌, ◌≤◌, true, false, List, [], ◌∷◌, length, get_or, set, replicate, Some, None, Ok, Err, Option, sym, refl, ap, ◌∙◌, subst, add-one, arith}
+use Rattle.std.proofs.lemmas.List.{get_or-replicate}
+use Rattle.std.proofs.lemmas.Grind.{common_steps}
 use Rattle.instruction.specs.declared.instruction.Instruction.{Instruction}
 use Rattle.script.specs.declared.role.Role.{Role}
-use Rattle.script.specs.declared.role.Role.TheVariants.{Plain, JumpsIf, Jumps, Arrives, BeginsBlock, EndsBlock, Opens, Closes}
 use Rattle.script.specs.declared.frames.Frame.{Frame}
 use Rattle.script.specs.declared.links.Links.{Links}
 use Rattle.script.specs.declared.refusal.ImageRefusal.TheVariants.{BrokenFrame}
 use Rattle.script.specs.Frames.{role_at, frames_after, all_closed, go_on, frames_from, frames_judged}
-use Rattle.script.specs.Regions.{or_none, open_before, around, innermost, region, closed_by, paired, partner_before}
+use Rattle.script.specs.Regions.{open_before, around, innermost, region, closed_by, paired, partner_before}
 use Rattle.script.specs.Framing.{is_empty, Countable}
 use Rattle.script.specs.Linking.{OpenedBefore, paired_in, JudgedAt}
 use Rattle.script.specs.Held.{HasPartners, HasRegions}
@@ -44,45 +43,19 @@ countable_opened b [] l h = tt
 countable_opened b (f ∷ fs) l h = (omega (arith, h.2), countable_opened b fs l h.3)
 
 -- one closer more in the table of partners
-set_paired : (table : List ℕ) (closer opener k : ℕ) → length table ≡ 1024 → 1 ≤ closer → closer ≤ 1024 → 1 ≤ opener → opener ≤ 1024 → k < 1024
-    → get_or (set (set table (closer - 1) opener) (opener - 1) closer) k 0 ≡ paired closer (Some opener) (suc k) (get_or table k 0)
-set_paired table closer opener k l c d o p h =
-    ⊎_elim
-    (λ e. let q : opener - 1 ≡ k = omega arith in
-    ap (λ j. get_or (set (set table (closer - 1) opener) j closer) k 0) q ∙ get_or-set_same (set table (closer - 1) opener) k closer 0 (omega (arith, length-set table (closer - 1) opener))
-    ∙ sym (cond-true (eqb (suc k) opener) closer _ (eq-eqb (suc k) opener e)))
-    (λ n. get_or-set_other (set table (closer - 1) opener) (opener - 1) k closer 0 (omega arith)
-    ∙ ⊎_elim
-    (λ e. let q : closer - 1 ≡ k = omega arith in
-    ap (λ j. get_or (set table j opener) k 0) q ∙ get_or-set_same table k opener 0 (omega arith) ∙ sym (cond-true (eqb (suc k) closer) opener _ (eq-eqb (suc k) closer e)))
-    (λ m. get_or-set_other table (closer - 1) k opener 0 (omega arith) ∙ sym (cond-false (eqb (suc k) closer) opener _ (ne_eqb (suc k) closer m)))
-    (cases_eq (suc k) closer)
-    ∙ sym (cond-false (eqb (suc k) opener) closer _ (ne_eqb (suc k) opener n)))
-    (cases_eq (suc k) opener)
-
 paired_in_lem : (r : Role) (fs : List Frame) (table : List ℕ) (a k : ℕ) → length table ≡ 1024 → 1 ≤ a → a ≤ 1024 → OpenedBefore a fs → k < 1024
     → get_or (paired_in a (closed_by r fs) table) k 0 ≡ paired a (closed_by r fs) (suc k) (get_or table k 0)
-paired_in_lem Plain fs table a k l c d o h = refl
-paired_in_lem (JumpsIf t) fs table a k l c d o h = refl
-paired_in_lem (Jumps t) fs table a k l c d o h = refl
-paired_in_lem Arrives fs table a k l c d o h = refl
-paired_in_lem (BeginsBlock b) fs table a k l c d o h = refl
-paired_in_lem (EndsBlock b) fs table a k l c d o h = refl
-paired_in_lem (Opens kind) fs table a k l c d o h = refl
-paired_in_lem (Closes kind) [] table a k l c d o h = refl
-paired_in_lem (Closes kind) (f ∷ fs) table a k l c d o h = set_paired table a f.address k l c d o.0 (omega (arith, o.1)) h
+paired_in_lem r fs table a k l c d o h = grind (arith, common_steps)
 
 -- one turn of the judging
 open_next : (s : List Instruction) (a : ℕ) (fs gs : List Frame) → fs ≡ open_before s a → frames_after s a fs ≡ Some gs → gs ≡ open_before s (suc a)
 unfolding open_before
-open_next s a fs gs e n = sym (ap (λ t. or_none (frames_after s a t)) (sym e) ∙ ap or_none n)
+open_next s a fs gs e n = grind (arith, common_steps)
 
 judged_next : (s : List Instruction) (a : ℕ) (fs : List Frame) (o : Option (List Frame)) → a ≤ length s → frames_after s a fs ≡ o
     → frames_from s (suc (length s) - a) a fs ≡ go_on a o (λ gs. frames_from s (suc (length s) - suc a) (suc a) gs)
 unfolding frames_from
-judged_next s a fs o h e =
-    let n : suc (length s) - a ≡ suc (suc (length s) - suc a) = omega arith in
-    ap (λ left. frames_from s left a fs) n ∙ ap (λ t. go_on a t (λ gs. frames_from s (suc (length s) - suc a) (suc a) gs)) e
+judged_next s a fs o h e = grind arith
 
 partners_next : (s : List Instruction) (a k : ℕ) (fs : List Frame) → fs ≡ open_before s a → paired a (closed_by (role_at s a) fs) k (partner_before s a k) ≡ partner_before s (suc a) k
 unfolding partner_before
@@ -94,11 +67,7 @@ region_next s a fs e = ap (λ t. innermost (around (role_at s a) a t)) e
 
 regions_next : (s : List Instruction) (a k : ℕ) (table : List ℕ) (here : ℕ) → length table ≡ 1024 → 1 ≤ a → a ≤ 1024 → here ≡ region s a → ((j : ℕ) → suc j < a → get_or table j 0 ≡ region s (suc j)) → suc k < suc a
     → get_or (set table (a - 1) here) k 0 ≡ region s (suc k)
-regions_next s a k table here l c d e f h =
-    ⊎_elim
-    (λ q. let j : a - 1 ≡ k = omega arith in ap (λ m. get_or (set table m here) k 0) j ∙ get_or-set_same table k here 0 (omega arith) ∙ e ∙ ap (region s) (sym q))
-    (λ n. get_or-set_other table (a - 1) k here 0 (omega arith) ∙ f k (omega arith))
-    (cases_eq (suc k) a)
+regions_next s a k table here l c d e f h = grind (arith, common_steps)
 
 pub opened_linked : (s : List Instruction) (a : ℕ) (links : Links) → LinkedBefore s a links → OpenedBefore a links.frames
 opened_linked s a links h = subst (OpenedBefore a) (sym h.frames) (open_opened_before s a)
@@ -123,11 +92,10 @@ refused_frames s a links h b e = b.judged ∙ judged_next s a links.frames None 
 
 judged_end : (s : List Instruction) (a : ℕ) (fs : List Frame) → a ≡ suc (length s) → frames_from s (suc (length s) - a) a fs ≡ all_closed a fs
 unfolding frames_from
-judged_end s a fs e = let n : suc (length s) - a ≡ 0 = omega arith in ap (λ left. frames_from s left a fs) n
+judged_end s a fs e = grind arith
 
 closed_or_not : (a : ℕ) (fs : List Frame) → (is_empty fs ≡ true → all_closed a fs ≡ Ok tt) × (is_empty fs ≡ false → all_closed a fs ≡ Err (BrokenFrame a))
-closed_or_not a [] = (λ _. refl, λ e. let z : ◌≡◌ {A = ℕ} 0 1 = cc in absurd (omega arith))
-closed_or_not a (f ∷ fs) = (λ e. let z : ◌≡◌ {A = ℕ} 0 1 = cc in absurd (omega arith), λ _. refl)
+closed_or_not a fs = grind (arith, common_steps)
 
 pub left_open : (s : List Instruction) (a end : ℕ) (links : Links) → end ≡ length s + 1 → a ≡ end → LinkedBefore s a links → is_empty links.frames ≡ false → frames_judged s ≡ Err (BrokenFrame end)
 left_open s a end links e q b h = b.judged ∙ judged_end s a links.frames (omega arith) ∙ (closed_or_not a links.frames).1 h ∙ ap (λ n. Err (BrokenFrame n)) q

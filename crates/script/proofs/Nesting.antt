@@ -78,16 +78,7 @@ module _ (s : List Instruction) (judged : frames_judged s ≡ Ok tt) where
   -- the frames that stand open are formed at every address
   closed_here : (c : ℕ) (f : Frame) (fs : List Frame) → Formed s c f fs → role_at s c ≡ Closes f.kind → right_count f.kind f.branches ≡ true
       → open_before s c ≡ f ∷ fs → open_before s (suc c) ≡ without f.kind fs → Closed s f.kind f.address c
-  closed_here c f fs w r n e g =
-      record {
-        order = w.early;
-        opener = w.opener;
-        closer = r;
-        count = f.branches;
-        counts = n;
-        before = e ∙ ap (λ rest. f ∷ rest) w.outside;
-        behind = g ∙ ap (without f.kind) w.outside;
-      }
+  closed_here c f fs w r n e g = grind arith
 
   branch_counted : (x c : ℕ) (fs : List Frame) → Closed s Branch x c → InnermostFormed s x fs → InnermostFormed s (suc c) (counted fs)
   branch_counted x c [] l w = tt

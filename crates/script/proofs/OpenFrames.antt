@@ -1,29 +1,26 @@
 -- The frames that stand open at each address, if those of the whole script are judged to be right.
-use Rattle.std.proofs.Common.{◌≡◌, ℕ, zero, suc, ◌+◌, ◌<◌, ◌≤◌, Bool, true, false, cond, ◌&&◌, ltb, List, [], ◌∷◌, length, Some, None, Ok, Option, Result, sym, refl, ap, ◌∙◌, subst, ⊎_elim, add-zero, one-add, arith}
+use Rattle.std.proofs.Common.{◌≡◌, ℕ, zero, suc, ◌+◌, ◌<◌, ◌≤◌, Bool, true, false, cond, ◌&&◌, ltb, List, [], ◌∷◌, length, Some, None, Ok, Option, Result, refl, ap, subst, ⊎_elim, one-add, arith}
 use Rattle.std.proofs.lemmas.List.{get_or_past}
 use Rattle.std.proofs.lemmas.Bool.{and_parts, cases_lt}
 use Rattle.instruction.specs.declared.instruction.Instruction.{Instruction}
-use Rattle.instruction.specs.declared.instruction.Instruction.TheVariants.{Nop}
 use Rattle.script.specs.declared.role.FrameKind.{FrameKind}
 use Rattle.script.specs.declared.role.Role.{Role}
 use Rattle.script.specs.declared.role.Role.TheVariants.{Plain, JumpsIf, Jumps, Arrives, BeginsBlock, EndsBlock, Opens, Closes}
 use Rattle.script.specs.declared.frames.Frame.{Frame}
 use Rattle.script.specs.declared.refusal.ImageRefusal.{ImageRefusal}
-use Rattle.script.specs.Roles.{role_of, arrives, by_framing, same_kind}
-use Rattle.script.specs.Frames.{role_at, beside, fresh, opened, right_count, without, open_after, frames_after, all_closed, go_on, frames_from, frames_judged}
-use Rattle.script.specs.Regions.{or_none, open_before}
+use Rattle.script.specs.Roles.{arrives, by_framing, same_kind}
+use Rattle.script.specs.Frames.{role_at, beside, fresh, opened, right_count, without, open_after, frames_after, go_on, frames_from, frames_judged}
+use Rattle.script.specs.Regions.{open_before}
 
 -- before the first instruction and behind the last all is plain
 past_is_plain : (s : List Instruction) (a : ℕ) → length s < a → role_at s a ≡ Plain
-past_is_plain s zero l = absurd (omega arith)
-past_is_plain s (suc a) l = ap role_of (get_or_past s a Nop (omega arith))
+past_is_plain s a l = grind (arith, get_or_past)
 
 pub not_plain_is_within : (s : List Instruction) (a : ℕ) → (role_at s a ≡ Plain → ⊥) → (1 ≤ a) × (a ≤ length s)
-not_plain_is_within s zero h = absurd (h refl)
-not_plain_is_within s (suc a) h = (omega arith, ⊎_elim (λ l. absurd (h (past_is_plain s (suc a) l))) (λ l. l) (cases_lt (length s) (suc a)))
+not_plain_is_within s a h = grind (arith, past_is_plain)
 
 pub arrives_within : (s : List Instruction) (a : ℕ) → arrives (role_at s a) ≡ true → (1 ≤ a) × (a ≤ length s)
-arrives_within s a e = not_plain_is_within s a (λ p. grind arith)
+arrives_within s a e = grind (arith, not_plain_is_within)
 
 -- no rule breaks at an address
 record Kept (s : List Instruction) (a : ℕ) : Type 0 where
@@ -32,20 +29,14 @@ record Kept (s : List Instruction) (a : ℕ) : Type 0 where
   pub next : open_after (role_at s a) a (open_before s a) ≡ Some (open_before s (suc a))
 
 cond_is_some : {A : Type 0} (b : Bool) (o : Option A) (x : A) → cond b o None ≡ Some x → (b ≡ true) × (o ≡ Some x)
-cond_is_some true o x e = (refl, e)
-cond_is_some false o x e = absurd (grind arith)
+cond_is_some b o x e = grind arith
 
 went_on : (a : ℕ) (o : Option (List Frame)) (next : List Frame → Result (Unit {0}) ImageRefusal) → go_on a o next ≡ Ok tt → (fs : List Frame) × (o ≡ Some fs) × (next fs ≡ Ok tt)
-went_on a None next e = absurd (grind arith)
-went_on a (Some fs) next e = (fs, refl, e)
+went_on a o next e = grind arith
 
 kept_after : (s : List Instruction) (a : ℕ) (fs : List Frame) → frames_after s a (open_before s a) ≡ Some fs → Kept s a × (fs ≡ open_before s (suc a))
 unfolding open_before
-kept_after s a fs e =
-    let c = cond_is_some (beside s a && fresh s a) (open_after (role_at s a) a (open_before s a)) fs e in
-    let same : fs ≡ open_before s (suc a) = sym (ap or_none e) in
-    let p = and_parts (beside s a) (fresh s a) c.0 in
-    (record { stands = p.0; named = p.1; next = c.1 ∙ ap Some same }, same)
+kept_after s a fs e = grind arith
 
 -- at a plain instruction no rule breaks, and the frames stay
 kept_if_plain : (s : List Instruction) (a : ℕ) → role_at s a ≡ Plain → Kept s a × (open_before s a ≡ open_before s (suc a))
@@ -54,11 +45,7 @@ kept_if_plain s a p = kept_after s a (open_before s a) (rw p)
 -- the frames of the last `left` instructions, from an address on, judged in reading order
 judged_is_kept : (s : List Instruction) (left a : ℕ) → frames_from s left a (open_before s a) ≡ Ok tt → ((b : ℕ) → a ≤ b → b < a + left → Kept s b) × (open_before s (a + left) ≡ [])
 unfolding frames_from
-judged_is_kept s zero a e = ((λ b l u. absurd (omega arith)), rw add-zero (none_left (open_before s a) e))
-  where
-    none_left : (fs : List Frame) → all_closed a fs ≡ Ok tt → fs ≡ []
-    none_left [] e = refl
-    none_left (f ∷ fs) e = absurd (grind arith)
+judged_is_kept s zero a e = grind arith
 judged_is_kept s (suc left) a e =
     let w = went_on a (frames_after s a (open_before s a)) (λ fs. frames_from s left (suc a) fs) e in
     let k = kept_after s a w.0 w.1 in

@@ -1,14 +1,11 @@
 -- No address outside a script has a partner.
-use Rattle.std.proofs.Common.{◌≡◌, ℕ, zero, suc, ◌<◌, ◌≤◌, Bool, true, false, cond, ◌&&◌, eqb, ltb, ◌≢◌, ◌⊎◌, List, [], ◌∷◌, length, Some, None, refl, ap, ◌∙◌, inl, inr, ⊎_elim, arith}
-use Rattle.std.proofs.lemmas.Bool.{ne_eqb}
+use Rattle.std.proofs.Common.{◌≡◌, ℕ, zero, suc, ◌<◌, ◌≤◌, Bool, cond, ◌&&◌, ◌⊎◌, List, [], ◌∷◌, length, None, refl, ap, ◌∙◌, inl, inr, ⊎_elim, arith}
 use Rattle.instruction.specs.declared.instruction.Instruction.{Instruction}
 use Rattle.script.specs.declared.role.FrameKind.{FrameKind}
 use Rattle.script.specs.declared.role.FrameKind.TheVariants.{Procedure, Branch, Forked}
 use Rattle.script.specs.declared.role.Role.{Role}
-use Rattle.script.specs.declared.role.Role.TheVariants.{Plain, JumpsIf, Jumps, Arrives, BeginsBlock, EndsBlock, Opens, Closes}
 use Rattle.script.specs.declared.frames.Frame.{Frame}
-use Rattle.script.specs.Roles.{same_kind}
-use Rattle.script.specs.Frames.{role_at, opened, right_count, without, open_after, beside, fresh}
+use Rattle.script.specs.Frames.{role_at, without, open_after, beside, fresh}
 use Rattle.script.specs.Linking.{OpenedBefore}
 use Rattle.script.specs.Calls.{some_address, partner_of}
 use Rattle.script.specs.Regions.{or_none, open_before, closed_by, paired, partner_before}
@@ -23,25 +20,11 @@ opened_without Branch b [] h = tt
 opened_without Branch b (f ∷ fs) h = (h.0, omega (arith, h.1), omega (arith, h.2), opened_on b fs h.3)
 opened_without (Forked a) b fs h = opened_on b fs h
 
-opened_if : (test : Bool) (b : ℕ) (fs : List Frame) → OpenedBefore b fs → OpenedBefore b (or_none (cond test (Some fs) None))
-opened_if true b fs h = h
-opened_if false b fs h = tt
-
 opened_after : (r : Role) (b : ℕ) (fs : List Frame) → 1 ≤ b → OpenedBefore b fs → OpenedBefore (suc b) (or_none (open_after r b fs))
-opened_after Plain b fs p h = opened_on b fs h
-opened_after (JumpsIf t) b fs p h = opened_on b fs h
-opened_after (Jumps t) b fs p h = opened_on b fs h
-opened_after Arrives b fs p h = opened_on b fs h
-opened_after (BeginsBlock n) b fs p h = opened_on b fs h
-opened_after (EndsBlock n) b fs p h = opened_on b fs h
-opened_after (Opens kind) b fs p h = opened_if (ltb (length fs) 16) (suc b) (opened kind b 0 ∷ fs) (p, omega arith, omega arith, opened_on b fs h)
-opened_after (Closes kind) b [] p h = tt
-opened_after (Closes kind) b (f ∷ fs) p h =
-    opened_if (same_kind kind f.kind && right_count kind f.branches) (suc b) (without kind fs) (opened_without kind b fs h.3)
+opened_after r b fs p h = grind (arith, opened_on, opened_without)
 
 opened_step : (test : Bool) (r : Role) (b : ℕ) (fs : List Frame) → 1 ≤ b → OpenedBefore b fs → OpenedBefore (suc b) (or_none (cond test (open_after r b fs) None))
-opened_step true r b fs p h = opened_after r b fs p h
-opened_step false r b fs p h = tt
+opened_step test r b fs p h = grind (arith, opened_after)
 
 pub open_opened_before : (s : List Instruction) (b : ℕ) → OpenedBefore b (open_before s b)
 unfolding open_before
@@ -49,21 +32,8 @@ open_opened_before s zero = tt
 open_opened_before s (suc zero) = tt
 open_opened_before s (suc (suc b)) = opened_step (beside s (suc b) && fresh s (suc b)) (role_at s (suc b)) (suc b) (open_before s (suc b)) (omega arith) (open_opened_before s (suc b))
 
-pub paired_other : (closer a p opener : ℕ) → a ≢ opener → a ≢ closer → paired closer (Some opener) a p ≡ p
-paired_other closer a p opener n m =
-    ap (λ t. cond t closer (cond (eqb a closer) opener p)) (ne_eqb a opener n) ∙ ap (λ t. cond t opener p) (ne_eqb a closer m)
-
 paired_outside : (r : Role) (fs : List Frame) (b a p : ℕ) → OpenedBefore b fs → (a ≡ 0) ⊎ (b < a) → 1 ≤ b → paired b (closed_by r fs) a p ≡ p
-paired_outside Plain fs b a p h o l = refl
-paired_outside (JumpsIf t) fs b a p h o l = refl
-paired_outside (Jumps t) fs b a p h o l = refl
-paired_outside Arrives fs b a p h o l = refl
-paired_outside (BeginsBlock n) fs b a p h o l = refl
-paired_outside (EndsBlock n) fs b a p h o l = refl
-paired_outside (Opens kind) fs b a p h o l = refl
-paired_outside (Closes kind) [] b a p h o l = refl
-paired_outside (Closes kind) (f ∷ fs) b a p h o l =
-    paired_other b a p f.address (λ e. ⊎_elim (λ z. omega (arith, h.0)) (λ g. omega (arith, h.1)) o) (λ e. ⊎_elim (λ z. omega arith) (λ g. omega arith) o)
+paired_outside r fs b a p h o l = grind arith
 
 partnerless_before : (s : List Instruction) (a b : ℕ) → b ≤ suc (length s) → (a ≡ 0) ⊎ (length s < a) → partner_before s b a ≡ 0
 unfolding partner_before open_before

@@ -4,11 +4,10 @@ use mathlib.Core.Path.{transport, transport⁻¹}
 use Rattle.std.proofs.lemmas.Bool.{cases_lt, cases_order}
 use Rattle.instruction.specs.declared.instruction.Instruction.{Instruction}
 use Rattle.script.specs.declared.role.FrameKind.{FrameKind}
-use Rattle.script.specs.declared.role.FrameKind.TheVariants.{Procedure, Branch, Forked}
 use Rattle.script.specs.declared.role.Role.{Role}
 use Rattle.script.specs.declared.role.Role.TheVariants.{Opens, Closes}
 use Rattle.script.specs.declared.frames.Frame.{Frame}
-use Rattle.script.specs.Frames.{role_at, counted, without, frames_judged}
+use Rattle.script.specs.Frames.{role_at, without, frames_judged}
 use Rattle.script.specs.Regions.{open_before, closed_by, paired, partner_before, partner}
 use Rattle.script.proofs.OpenFrames.{keeps, none_open_last, not_plain_is_within}
 use Rattle.script.proofs.Nesting.{Closed, Passing, keeping, opening, closing, passing}
@@ -18,14 +17,8 @@ abbrev Holds : ℕ → List Frame → Type 0
 Holds x [] = ⊥
 Holds x (f ∷ fs) = (f.address ≡ x) ⊎ Holds x fs
 
-counted_holds : (x : ℕ) (fs : List Frame) → Holds x (counted fs) ≡ Holds x fs
-counted_holds x [] = refl
-counted_holds x (f ∷ fs) = refl
-
 without_holds : (x : ℕ) (kind : FrameKind) (fs : List Frame) → Holds x (without kind fs) ≡ Holds x fs
-without_holds x (Procedure p) fs = refl
-without_holds x Branch fs = counted_holds x fs
-without_holds x (Forked n) fs = refl
+without_holds x kind fs = grind arith
 
 -- what a closer and its opener have to do with partners
 keeping_closes_none : (r : Role) (fs : List Frame) → keeps r ≡ true → closed_by r fs ≡ None
@@ -44,7 +37,7 @@ paired_other : (closer opener a p : ℕ) → (a ≡ closer → ⊥) → (a ≡ o
 paired_other closer opener a p m n = grind arith
 
 paired_own : (closer opener p q : ℕ) → opener < closer → (paired closer (Some opener) opener p ≡ closer) × (paired closer (Some opener) closer q ≡ opener)
-paired_own closer opener p q l = (grind arith, grind arith)
+paired_own closer opener p q l = grind arith
 
 module _ (s : List Instruction) (judged : frames_judged s ≡ Ok tt) where
   -- what stands open behind an instruction and before it

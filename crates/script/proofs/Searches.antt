@@ -37,7 +37,7 @@ one_before test s a (suc n) h k =
     sym (⊎_elim (λ e. or_left _ _ (subst (λ b. test (instruction_at s b) ≡ true) e k)) (λ ne. or_right (test (instruction_at s n)) _ (sym (one_before test s a n (omega arith) k))) (cases_eq a n))
 
 pub found_before : (test : Instruction → Bool) (s : List Instruction) (n : ℕ) → some_before test s n ≡ true → (a : ℕ) × (test (instruction_at s a) ≡ true)
-found_before test s zero h = let z : ◌≡◌ {A = ℕ} 0 1 = cc in absurd (omega arith)
+found_before test s zero h = absurd (cc)
 found_before test s (suc n) h = ⊎_elim (λ e. (n, e)) (λ e. found_before test s n e) (or_cases (test (instruction_at s n)) (some_before test s n) h)
 
 -- the names that instructions give

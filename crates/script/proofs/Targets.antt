@@ -1,11 +1,11 @@
 -- What ends and jumps refer to in a script whose references are judged to be right.
-use Rattle.std.proofs.Common.{Err, ◌≡◌, ℕ, zero, suc, ◌+◌, ◌<◌, ◌≤◌, Bool, true, false, ◌||◌, eqb, ◌⊎◌, List, length, Ok, Result, sym, refl, ap, ◌∙◌, subst, inl, inr, ⊎_elim, add-one, arith}
+use Rattle.std.proofs.Common.{◌≡◌, ℕ, zero, suc, ◌+◌, ◌<◌, ◌≤◌, Bool, true, ◌||◌, eqb, ◌⊎◌, List, length, Ok, Result, sym, ap, ◌∙◌, subst, inl, inr, ⊎_elim, add-one, arith}
 use Rattle.std.proofs.lemmas.Bool.{and_parts, or_cases, eqb-true, cases_lt}
 use Rattle.instruction.specs.declared.instruction.Instruction.{Instruction}
 use Rattle.instruction.specs.declared.instruction.Instruction.TheVariants.{Jpc, Jmp, Block, End}
-use Rattle.script.specs.declared.role.FrameKind.TheVariants.{Procedure, Branch, Forked}
+use Rattle.script.specs.declared.role.FrameKind.TheVariants.{Procedure}
 use Rattle.script.specs.declared.role.Role.{Role}
-use Rattle.script.specs.declared.role.Role.TheVariants.{Plain, JumpsIf, Jumps, Arrives, BeginsBlock, EndsBlock, Opens, Closes}
+use Rattle.script.specs.declared.role.Role.TheVariants.{Plain, JumpsIf, Jumps, Arrives, BeginsBlock, EndsBlock, Opens}
 use Rattle.script.specs.declared.refusal.ImageRefusal.{ImageRefusal}
 use Rattle.script.specs.declared.refusal.ImageRefusal.TheVariants.{EndWithoutBlock, WrongTarget}
 use Rattle.script.specs.Scripts.{instruction_at}
@@ -20,8 +20,7 @@ use Rattle.script.proofs.RoleInstructions.{instruction_by_role}
 
 -- nothing is wrong with any reference
 none_refused : (r rest : Result (Unit {0}) ImageRefusal) → refused_or r rest ≡ Ok tt → (r ≡ Ok tt) × (rest ≡ Ok tt)
-none_refused (Ok fine) rest e = (refl, e)
-none_refused (Err refusal) rest e = absurd (grind arith)
+none_refused r rest e = grind arith
 
 judged_is_right : (s : List Instruction) (left a : ℕ) → references_from s left a ≡ Ok tt → (b : ℕ) → a ≤ b → b < a + left → reference_judged s b ≡ Ok tt
 unfolding references_from
@@ -35,23 +34,13 @@ judged_is_right s (suc left) a e b l u =
 
 -- what the tests of a target say
 fine_if : (fine : Bool) (refusal : ImageRefusal) → fine_or fine refusal ≡ Ok tt → fine ≡ true
-fine_if true refusal e = refl
-fine_if false refusal e = absurd (grind arith)
+fine_if fine refusal e = grind arith
 
 arrives_only : (r : Role) → arrives r ≡ true → r ≡ Arrives
 arrives_only r e = grind arith
 
 opens_procedure_lem : (r : Role) → opens_procedure r ≡ true → (p : ℕ) × (r ≡ Opens (Procedure p))
-opens_procedure_lem Plain e = absurd (grind arith)
-opens_procedure_lem (JumpsIf a) e = absurd (grind arith)
-opens_procedure_lem (Jumps a) e = absurd (grind arith)
-opens_procedure_lem Arrives e = absurd (grind arith)
-opens_procedure_lem (BeginsBlock b) e = absurd (grind arith)
-opens_procedure_lem (EndsBlock b) e = absurd (grind arith)
-opens_procedure_lem (Opens (Procedure p)) e = (p, refl)
-opens_procedure_lem (Opens Branch) e = absurd (grind arith)
-opens_procedure_lem (Opens (Forked n)) e = absurd (grind arith)
-opens_procedure_lem (Closes kind) e = absurd (grind arith)
+opens_procedure_lem r e = grind arith
 
 label_for_lem : (s : List Instruction) (a t : ℕ) → label_for s a t ≡ true → LabelFor s a t
 label_for_lem s a t e =

@@ -71,7 +71,7 @@ impl OpenFrames {
         self.frames.is_empty()
     }
 
-    // The address of the innermost procedure or branch, or 0.
+    // The address of the innermost procedure or branch; 0 is no absence, but the whole script, a region like the others.
     pub(crate) fn innermost(&self) -> u16
         ensures { result ≡ innermost self.now }
     {

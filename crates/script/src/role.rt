@@ -1,6 +1,6 @@
 // What an instruction does to the form of a script. All rules of form go by these roles.
 ghost use Rattle.std.specs.Prelude.{◌≡◌};
-ghost use Rattle.script.specs.Roles.{role_of, frame_name, given_name, block_name, is_named, leaves, before_branch, begins_branch, after_branch, arrives, opens_procedure};
+ghost use Rattle.script.specs.Roles.{role_of, frame_name, given_name, leaves, before_branch, begins_branch, after_branch, arrives, opens_procedure};
 ghost use Rattle.script.specs.Frames.{beside_by};
 
 use instruction::instruction::Instruction;
@@ -9,7 +9,7 @@ use instruction::instruction::Instruction;
 #[derive(Clone, Copy, Default, PartialEq, Eq, Debug)]
 pub(crate) enum FrameKind {
     Procedure(u8), // from proc to p_return
-    #[default]
+    #[default] // what an unused place of the open frames holds
     Branch, // from par begin to par end
     Forked(u8), // from fork to merge
 }
@@ -68,19 +68,6 @@ impl Role {
             Role::Opens(kind) => kind.name(),
             _ => None,
         }
-    }
-
-    pub(crate) fn gives(self, name: u8) -> bool
-        ensures { result ≡ is_named name (given_name self) }
-    {
-        self.given_name() == Some(name)
-    }
-
-    // A block of the name.
-    pub(crate) fn is_block(self, name: u8) -> bool
-        ensures { result ≡ is_named name (block_name self) }
-    {
-        self == Role::BeginsBlock(name)
     }
 
     // A jmp or p_return: what follows is not come to from here.
