@@ -5,7 +5,7 @@ ghost use Rattle.rules.specs.Refusals.{cause_number, number_told};
 use script::refusal::ImageRefusal;
 
 // Why a step halts.
-#[derive(Clone, Copy)]
+#[derive(Clone, Copy, PartialEq, Eq, Debug)]
 pub enum Cause {
     StackShort, // fewer operands than the instruction pops
     StackFull, // no room for one more operand
@@ -19,7 +19,7 @@ pub enum Cause {
 }
 
 impl Cause {
-    // The number by which users know the cause.
+    // The number by which users know the cause. A table and no discriminants, as of the refusals, two of which share a number.
     pub fn number(self) -> u32
         ensures { result ≡ cause_number self }
     {
@@ -38,14 +38,14 @@ impl Cause {
 }
 
 // A step that halts: why, whose, and at which address.
-#[derive(Clone, Copy)]
+#[derive(Clone, Copy, PartialEq, Eq, Debug)]
 pub struct Halt {
     pub cause: Cause,
     pub process: u32,
     pub address: usize,
 }
 
-#[derive(Clone, Copy)]
+#[derive(Clone, Copy, PartialEq, Eq, Debug)]
 pub enum Refusal {
     Image(ImageRefusal), // the image is no script
     TooManyFigures, // more than 32

@@ -13,7 +13,6 @@ use Rattle.script.specs.Roles.{role_of}
 use Rattle.script.specs.Frames.{role_at, beside_by, without, frames_judged}
 use Rattle.script.specs.Regions.{open_before, around, region_from, innermost, region, partner}
 use Rattle.script.specs.Flow.{falls, fallen_into, StretchAt, AcceptedScriptsFlow}
-use Rattle.script.proofs.Acceptance.{AcceptedParts, accepted_parts}
 use Rattle.script.proofs.OpenFrames.{keeps, stands_beside}
 use Rattle.script.proofs.Nesting.{Chain, done, onward, Passing, keeping, opening, closing, passing, branches_up_to_merge}
 use Rattle.script.proofs.Partners.{closer_closes, opener_is_closed, partners}
@@ -99,20 +98,17 @@ accepted_scripts_flow s accepted =
       first = (goes_on s judged 0 refl).0;
       whole = (goes_on s judged 0 refl).1 ∙ whole_script s;
       on = λ a l u f. goes_on s judged a f;
-      jpc = jpc_to_label s parts.references;
-      jmp = jmp_to_label_or_proc s parts.references;
+      jpc = jpc_to_label s accepted.references;
+      jmp = jmp_to_label_or_proc s accepted.references;
       fork = λ a n i. fork_at s judged a n (ap role_of i);
       merge = λ a n i. merge_of_fork s judged a n (ap role_of i);
       names = given_once s judged;
-      end = end_has_block s parts.references;
+      end = end_has_block s accepted.references;
       proc = λ a p i. stretch_at s judged a (Procedure p) (ap role_of i) (λ x outer. refl);
       branch = λ a i. stretch_at s judged a Branch (ap role_of i) (λ x outer. refl);
       proc_end = λ a p i. region_has_opener s judged a (Procedure p) (ap role_of i) (λ x outer. refl);
       branch_end = λ a i. region_has_opener s judged a Branch (ap role_of i) (λ x outer. refl);
     }
   where
-    parts : AcceptedParts s
-    parts = accepted_parts s accepted
-
     judged : frames_judged s ≡ Ok tt
-    judged = parts.frames
+    judged = accepted.frames

@@ -19,7 +19,7 @@ use Rattle.script.specs.References.{references_judged}
 use Rattle.script.specs.Images.{pair_bytes, image_of, image, and_then, or_raised, image_number, count_judged, pair_at, pairs_from, end_judged, pairs_of, decoded_from, decoded, instructions_read, judged, read_image, is_writable, are_writable, has_image, Accepted, ImagesAndScripts, OneImage}
 use Rattle.script.specs.Held.{list_of}
 use Rattle.script.specs.Calls.{held}
-use Rattle.script.proofs.Acceptance.{accepted_parts, parts_accepted, image_parts, parts_image}
+use Rattle.script.proofs.Acceptance.{image_parts, parts_image}
 
 -- what stands behind an accepted answer
 then_accepted : {X Y : Type 0} (r : Result X ImageRefusal) (next : X → Result Y ImageRefusal) (y : Y) → and_then r next ≡ Ok y → (x : X) × (r ≡ Ok x) × (next x ≡ Ok y)
@@ -167,7 +167,7 @@ read_is_image bs s e =
     let third = unit_accepted (references_judged first.0) _ s second.1 in
     let same : first.0 ≡ s = let h = third.1 in cc in
     let here = instructions_accepted bs first.0 first.1 in (
-      parts_accepted s (record { image = ap has_image (sym same) ∙ here.0; frames = ap frames_judged (sym same) ∙ second.0; references = ap references_judged (sym same) ∙ third.0 }),
+      subst Accepted same (record { image = here.0; frames = second.0; references = third.0 }),
       here.1 ∙ ap image same,
     )
 
@@ -241,14 +241,13 @@ writable_decoded n a earlier (i ∷ is) e =
 
 image_is_read : (s : List Instruction) → Accepted s → read_image (image s) ≡ Ok s
 image_is_read s accepted =
-    let parts = accepted_parts s accepted in
-    let size = image_parts s parts.image in
+    let size = image_parts s accepted.image in
     let ps : List (ℕ × ℕ) = map (code_and_operand (length s)) s in
     let n : length ps ≡ length s = length-map s (code_and_operand (length s)) in
     ap (λ r. and_then (and_then r (λ pairs. decoded pairs)) (λ s. judged s)) (image_read ps (omega (arith, n, size.0)) (omega (arith, n, size.1)) (writable_sized (length s) s size.2))
     ∙ ap (λ r. and_then r (λ s. judged s)) (ap (λ k. decoded_from k 1 ps []) n ∙ writable_decoded (length s) 1 [] s size.2)
-    ∙ ap (λ r. and_then r (λ _. and_then (references_judged s) (λ _. Ok s))) parts.frames
-    ∙ ap (λ r. and_then r (λ _. Ok s)) parts.references
+    ∙ ap (λ r. and_then r (λ _. and_then (references_judged s) (λ _. Ok s))) accepted.frames
+    ∙ ap (λ r. and_then r (λ _. Ok s)) accepted.references
 
 pub images_and_scripts : ImagesAndScripts
 images_and_scripts bs s = (read_is_image bs s, image_is_read s)

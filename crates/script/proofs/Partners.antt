@@ -9,6 +9,7 @@ use Rattle.script.specs.declared.role.Role.TheVariants.{Opens, Closes}
 use Rattle.script.specs.declared.frames.Frame.{Frame}
 use Rattle.script.specs.Frames.{role_at, without, frames_judged}
 use Rattle.script.specs.Regions.{open_before, closed_by, paired, partner_before, partner}
+use Rattle.script.proofs.Outside.{paired_other}
 use Rattle.script.proofs.OpenFrames.{keeps, none_open_last, not_plain_is_within}
 use Rattle.script.proofs.Nesting.{Closed, Passing, keeping, opening, closing, passing}
 
@@ -32,9 +33,6 @@ closed_is_within {s} {kind} {x} {c} l =
 
 closed_by_lem : {s : List Instruction} {kind : FrameKind} {x c : ℕ} → Closed s kind x c → closed_by (role_at s c) (open_before s c) ≡ Some x
 closed_by_lem l = rw (l.closer, l.before)
-
-paired_other : (closer opener a p : ℕ) → (a ≡ closer → ⊥) → (a ≡ opener → ⊥) → paired closer (Some opener) a p ≡ p
-paired_other closer opener a p m n = grind arith
 
 paired_own : (closer opener p q : ℕ) → opener < closer → (paired closer (Some opener) opener p ≡ closer) × (paired closer (Some opener) closer q ≡ opener)
 paired_own closer opener p q l = grind arith
@@ -124,7 +122,7 @@ module _ (s : List Instruction) (judged : frames_judged s ≡ Ok tt) where
       at : Passing s b → paired b (closed_by (role_at s b) (open_before s b)) a (partner_before s b a) ≡ partner_before s b a
       at (keeping k e) = rw (keeping_closes_none (role_at s b) (open_before s b) k)
       at (opening kind r e) = rw r
-      at (closing kind x l) = rw (closed_by_lem l) (paired_other b x a (partner_before s b a) n (λ e. h kind (subst (λ n. Closed s kind n b) (sym e) l)))
+      at (closing kind x l) = rw (closed_by_lem l) (paired_other b a (partner_before s b a) x (λ e. h kind (subst (λ n. Closed s kind n b) (sym e) l)) n)
 
   untouched_from : (a b c : ℕ) → b ≤ c → ((d : ℕ) → b ≤ d → (a ≡ d → ⊥) × ((kind : FrameKind) → Closed s kind a d → ⊥)) → partner_before s c a ≡ partner_before s b a
   untouched_from a b zero l h = let e : zero ≡ b = omega arith in ap (λ n. partner_before s n a) e

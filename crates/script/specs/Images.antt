@@ -1,5 +1,5 @@
 -- Images: the count of the instructions, then the code and the operand of each, all as numbers, and no more bytes.
-use Rattle.std.specs.Prelude.{◌≡◌, ℕ, zero, suc, Bool, true, cond, ◌&&◌, List, [], ◌∷◌, ◌++◌, map, length, is_some, is_ok, ok_or, Ok, Err, Result, nat_le, nat_lt}
+use Rattle.std.specs.Prelude.{◌≡◌, ℕ, zero, suc, Bool, true, cond, ◌&&◌, List, [], ◌∷◌, ◌++◌, map, length, is_some, ok_or, Ok, Err, Result, nat_le, nat_lt}
 use Rattle.std.specs.List.{flat_map}
 use Rattle.varint.specs.declared.number.Fault.{Fault}
 use Rattle.varint.specs.Writings.{writing}
@@ -104,11 +104,10 @@ abbrev pub has_image : List Instruction → Bool
 has_image s = nat_le 1 (length s) && (nat_le (length s) 1024 && are_writable (length s) s)
 
 -- a script that keeps every rule
-abbrev pub is_accepted : List Instruction → Bool
-is_accepted s = has_image s && (is_ok (frames_judged s) && is_ok (references_judged s))
-
-abbrev pub Accepted : List Instruction → Type 0
-Accepted s = is_accepted s ≡ true
+pub record Accepted (s : List Instruction) : Type 0 where
+  pub image : has_image s ≡ true
+  pub frames : frames_judged s ≡ Ok tt
+  pub references : references_judged s ≡ Ok tt
 
 -- what is read as a script is its image, and the image of an accepted script is read as the script
 abbrev pub ImagesAndScripts : Type 0

@@ -1,5 +1,5 @@
 // The instructions of a script, in reading order.
-ghost use Rattle.std.specs.Prelude.{◌≡◌, ◌≤◌, length};
+ghost use Rattle.std.specs.Prelude.{◌≤◌};
 
 use instruction::instruction::Instruction;
 
@@ -13,6 +13,5 @@ pub const MOST_INSTRUCTIONS: usize = 1024;
 pub struct Instructions {
     items: [Instruction; MOST_INSTRUCTIONS],
     count: usize,
-    ghost table: { length items ≡ 1024 },
     ghost few: { count ≤ 1024 },
 }
