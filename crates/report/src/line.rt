@@ -10,7 +10,7 @@ use std::alloc::{AllocError, Global};
 use std::fmt;
 
 // An entry and its position; the oldest entry has position 1.
-#[derive(Clone, Copy)]
+#[derive(Clone, Copy, PartialEq, Eq, Debug)]
 pub struct Line {
     pub position: usize,
     pub entry: Entry,
@@ -45,7 +45,7 @@ impl fmt::Display for Line {
 
     fn fmt<W: fmt::Write>(&self, f: &mut fmt::Formatter<W>) -> fmt::Result {
         let position = self.position;
-        let owner = Owner::of(&self.entry);
+        let owner = Owner::from(&self.entry);
         let kind = self.entry.kind;
         let name = kind_name(kind);
         let words = kind_words(kind);
