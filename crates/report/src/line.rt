@@ -1,6 +1,6 @@
 // The lines for entries.
 ghost use Rattle.std.specs.Prelude.{◌≡◌, IfOk, Some};
-ghost use Rattle.report.specs.Numbering.{lines_of, LineAt};
+ghost use Rattle.report.specs.Numbering.{lines_of};
 ghost use Rattle.report.specs.Words.{kind_name, kind_words, has_number, number_text, line_text};
 
 use crate::owner::Owner;
@@ -21,23 +21,14 @@ pub fn lines(heap: Global, entries: &[Entry]) -> Result<Vec<Line>, AllocError>
     ensures { IfOk result (λ v. v.items ≡ lines_of entries.now) }
 {
     let mut lines = Vec::new(heap);
-    while let Some(line) = line_at(entries, lines.len()) {
-        lines.push(line)?;
+    for entry in entries {
+        let position = entries.len() - lines.len();
+        lines.push(Line {
+            position,
+            entry: *entry,
+        })?;
     }
     Ok(lines)
-}
-
-// The line for the entry at a place, if there is one.
-fn line_at(entries: &[Entry], place: usize) -> Option<Line>
-    ensures { LineAt entries.now place result }
-{
-    match entries.get(place) {
-        Some(entry) => Some(Line {
-            position: entries.len() - place,
-            entry: *entry,
-        }),
-        None => None,
-    }
 }
 
 impl fmt::Display for Line {
@@ -93,10 +84,7 @@ fn kind_words(kind: Kind) -> &'static str
 fn has_number(kind: Kind) -> bool
     ensures { result ≡ has_number kind }
 {
-    match kind {
-        Kind::Enter | Kind::Store | Kind::Jump | Kind::Free => true,
-        Kind::Run | Kind::Done | Kind::Alloc | Kind::Fork | Kind::Merge => false,
-    }
+    matches!(kind, Kind::Enter | Kind::Store | Kind::Jump | Kind::Free)
 }
 
 // The number of an entry of a kind.
@@ -114,7 +102,7 @@ impl fmt::Display for Number {
         if has_number(self.kind) {
             write!(f, " {number}")
         } else if number == 0 {
-            f.write_str("")
+            Ok(())
         } else {
             write!(f, " (number {number})")
         }

@@ -18,7 +18,7 @@ impl fmt::Display for Operand {
 
     fn fmt<W: fmt::Write>(&self, f: &mut fmt::Formatter<W>) -> fmt::Result {
         match *self {
-            Operand::Absent => f.write_str(""),
+            Operand::Absent => Ok(()),
             Operand::Number(number) => write!(f, " {number}"),
             Operand::Operation(operator) => {
                 let name = operator_name(operator);
