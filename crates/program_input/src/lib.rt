@@ -17,6 +17,7 @@ pub fn asked<R: Drop>(
     rt: &HostRuntime,
     usage: &'static str,
 ) -> Result<Option<Vec<u8>>, Failure<R>> {
+    // by hand: clap would say the help and the refusals in words of its own
     let mut words = env::args(rt)?.skip(1);
     let Some(word) = words.next() else {
         return Ok(Some(standard_input(rt)?));

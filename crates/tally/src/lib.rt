@@ -13,7 +13,7 @@ use std::collections::BTreeMap;
 use std::fmt;
 
 // The counts in the order of owners; who has no entry is not in it.
-#[derive(Drop)]
+#[derive(PartialEq, Eq, Debug, Drop)]
 pub struct Tally {
     pub counts: BTreeMap<Owner, usize>,
 }
