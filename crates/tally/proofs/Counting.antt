@@ -1,5 +1,5 @@
 -- One entry more in the counts.
-use Rattle.std.proofs.Common.{◌≡◌, ℕ, zero, suc, ◌+◌, ◌<◌, ◌≤◌, Bool, true, false, cond, List, [], ◌∷◌, ◌++◌, length, get_or, take, Some, unwrap_or, sym, refl, ap, ◌∙◌, subst, add-zero, arith}
+use Rattle.std.proofs.Common.{◌≡◌, ℕ, zero, suc, ◌+◌, ◌<◌, ◌≤◌, Bool, true, false, cond, List, [], ◌∷◌, ◌++◌, length, get_or, take, Some, unwrap_or, sym, refl, ap, ◌∙◌, subst, add-zero, add-one, arith}
 use Rattle.std.specs.BTreeMap.{BTreeMap, IsOrdered, Updates, get}
 use Rattle.std.specs.Map.{count_at}
 use Rattle.std.specs.Ordering.{is_eq}
@@ -28,9 +28,8 @@ same_is_one (Row m) (Row n) e = ap (λ n. Row n) (eqb-true m n e)
 same_is_one (Process m) (Row n) e = cc
 same_is_one (Row m) (Process n) e = cc
 
-told_where_some : (k n : ℕ) → k ≡ n + 1 → Some k ≡ some_if_any k
-told_where_some zero n h = absurd (omega arith)
-told_where_some (suc k) n h = refl
+told_where_some : (n : ℕ) → Some (n + 1) ≡ some_if_any (n + 1)
+told_where_some n = rw (add-one n) refl
 
 told_back : (k : ℕ) → unwrap_or (some_if_any k) 0 ≡ k
 told_back zero = refl
@@ -57,16 +56,8 @@ one_entry_more es e m m' before ordered up = record {
     one_more owner = sum_by_push _ es e
 
     told : (owner : Owner) (same : Bool) → same_owner owner (owner_of e) ≡ same → get owner_cmp m' owner ≡ some_if_any (entries_of owner (es ++ e ∷ []))
-    told owner true same =
-        let next : count_at (get owner_cmp m) (owner_of e) + 1 ≡ entries_of owner (es ++ e ∷ []) = ap (λ k. k + 1) (count_of_owner es m (owner_of e) before ∙ ap (λ o. entries_of o es) (sym (same_is_one owner (owner_of e) same))) ∙ sym (one_more owner ∙ ap (λ b. entries_of owner es + cond b 1 0) same) in
-        updates.0 owner
-        ∙ ap (λ b. cond b (Some (count_at (get owner_cmp m) (owner_of e) + 1)) (get owner_cmp m owner)) (same_where_equal owner (owner_of e) ∙ same)
-        ∙ told_where_some (count_at (get owner_cmp m) (owner_of e) + 1) (count_at (get owner_cmp m) (owner_of e)) refl
-        ∙ ap some_if_any next
-    told owner false same =
-        updates.2 owner (same_where_equal owner (owner_of e) ∙ same)
-        ∙ before.told owner
-        ∙ ap some_if_any (sym (one_more owner ∙ ap (λ b. entries_of owner es + cond b 1 0) same ∙ add-zero (entries_of owner es)))
+    told owner true same = rw (updates.0 owner, same_where_equal owner (owner_of e), same, count_of_owner es m (owner_of e) before, sym (same_is_one owner (owner_of e) same), one_more owner, same) (told_where_some (entries_of owner es))
+    told owner false same = rw (updates.2 owner (same_where_equal owner (owner_of e) ∙ same), before.told owner, one_more owner, same, add-zero (entries_of owner es)) refl
 
 module _ (es : List Entry) (i : ℕ) (m : BTreeMap Owner ℕ) (within : i < length es) (before : Counts (take i es) m) where
   pub count_below_all : (owner : Owner) → count_at (get ghosts.cmp m) owner + 1 ≤ length es
