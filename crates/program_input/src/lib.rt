@@ -29,10 +29,8 @@ pub fn asked<R: Drop>(
         rt.println(usage)?;
         return Ok(None);
     }
-    match fs::read(rt, word.as_str()) {
-        Ok(bytes) => Ok(Some(bytes)),
-        Err(error) => Err(Failure::Unread(word, error)),
-    }
+    let bytes = fs::read(rt, word.as_str()).map_err(|error| Failure::Unread(word, error))?;
+    Ok(Some(bytes))
 }
 
 fn standard_input<R: Drop>(rt: &HostRuntime) -> Result<Vec<u8>, Failure<R>> {
