@@ -13,6 +13,7 @@ pub fn entries_in(heap: Global, bytes: &mut [u8]) -> Result<Vec<Entry>, Failure<
     ensures { Found bytes.old result }
 {
     let used = bytes.len();
+    // no map_err: no proof is made yet of a closure that is handed lent bytes back
     match PackedJournal::lay(bytes, used) {
         Ok(journal) => Ok(into_entries(journal, heap)?),
         Err(refused) => Err(Failure::Refused(refused.refusal)),

@@ -7,7 +7,6 @@ use journal::refusal::LayRefusal;
 use program_input::failure::Failure;
 use program_input::{asked, ended};
 use report::line::lines;
-use report::owner::Owner;
 use std::io;
 use std::process::ExitCode;
 use tally::{Share, Tally};
@@ -48,16 +47,9 @@ fn show(rt: &HostRuntime, entries: &[Entry], bytes: usize) -> Result<(), Failure
 }
 
 fn show_tally(rt: &HostRuntime, tally: &Tally) -> io::Result<()> {
-    for (number, entries) in tally.processes.iter() {
+    for (owner, entries) in tally.counts.iter() {
         let share = Share {
-            owner: Owner::Process(*number),
-            entries: *entries,
-        };
-        println!(rt; "{share}")?;
-    }
-    for (number, entries) in tally.rows.iter() {
-        let share = Share {
-            owner: Owner::Row(*number),
+            owner: *owner,
             entries: *entries,
         };
         println!(rt; "{share}")?;

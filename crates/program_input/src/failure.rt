@@ -4,6 +4,7 @@ ghost use Rattle.program_input.specs.FailureWords.{failure_text};
 ghost use Rattle.program_input.specs.declared.failure.Failure.TheVariants.{System, OutOfMemory};
 
 use std::alloc::AllocError;
+use std::error::Error;
 use std::{fmt, io};
 
 // R says why what was read is refused.
@@ -46,3 +47,5 @@ impl<R: fmt::Display> fmt::Display for Failure<R> {
         }
     }
 }
+
+impl<R: fmt::Debug + fmt::Display + Drop> Error for Failure<R> {}

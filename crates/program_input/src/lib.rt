@@ -17,6 +17,7 @@ pub fn asked<R: Drop>(
     rt: &HostRuntime,
     usage: &'static str,
 ) -> Result<Option<Vec<u8>>, Failure<R>> {
+    // by hand: clap would say the help and the refusals in words of its own
     let mut words = env::args(rt)?.skip(1);
     let Some(word) = words.next() else {
         return Ok(Some(standard_input(rt)?));
@@ -28,10 +29,8 @@ pub fn asked<R: Drop>(
         rt.println(usage)?;
         return Ok(None);
     }
-    match fs::read(rt, word.as_str()) {
-        Ok(bytes) => Ok(Some(bytes)),
-        Err(error) => Err(Failure::Unread(word, error)),
-    }
+    let bytes = fs::read(rt, word.as_str()).map_err(|error| Failure::Unread(word, error))?;
+    Ok(Some(bytes))
 }
 
 fn standard_input<R: Drop>(rt: &HostRuntime) -> Result<Vec<u8>, Failure<R>> {

@@ -1,6 +1,6 @@
 // The lines for entries.
 ghost use Rattle.std.specs.Prelude.{◌≡◌, IfOk, Some};
-ghost use Rattle.report.specs.Numbering.{lines_of, LineAt};
+ghost use Rattle.report.specs.Numbering.{lines_of};
 ghost use Rattle.report.specs.Words.{kind_name, kind_words, has_number, number_text, line_text};
 
 use crate::owner::Owner;
@@ -10,7 +10,7 @@ use std::alloc::{AllocError, Global};
 use std::fmt;
 
 // An entry and its position; the oldest entry has position 1.
-#[derive(Clone, Copy)]
+#[derive(Clone, Copy, PartialEq, Eq, Debug)]
 pub struct Line {
     pub position: usize,
     pub entry: Entry,
@@ -21,23 +21,14 @@ pub fn lines(heap: Global, entries: &[Entry]) -> Result<Vec<Line>, AllocError>
     ensures { IfOk result (λ v. v.items ≡ lines_of entries.now) }
 {
     let mut lines = Vec::new(heap);
-    while let Some(line) = line_at(entries, lines.len()) {
-        lines.push(line)?;
+    for entry in entries {
+        let position = entries.len() - lines.len();
+        lines.push(Line {
+            position,
+            entry: *entry,
+        })?;
     }
     Ok(lines)
-}
-
-// The line for the entry at a place, if there is one.
-fn line_at(entries: &[Entry], place: usize) -> Option<Line>
-    ensures { LineAt entries.now place result }
-{
-    match entries.get(place) {
-        Some(entry) => Some(Line {
-            position: entries.len() - place,
-            entry: *entry,
-        }),
-        None => None,
-    }
 }
 
 impl fmt::Display for Line {
@@ -45,7 +36,7 @@ impl fmt::Display for Line {
 
     fn fmt<W: fmt::Write>(&self, f: &mut fmt::Formatter<W>) -> fmt::Result {
         let position = self.position;
-        let owner = Owner::of(&self.entry);
+        let owner = Owner::from(&self.entry);
         let kind = self.entry.kind;
         let name = kind_name(kind);
         let words = kind_words(kind);
@@ -93,10 +84,7 @@ fn kind_words(kind: Kind) -> &'static str
 fn has_number(kind: Kind) -> bool
     ensures { result ≡ has_number kind }
 {
-    match kind {
-        Kind::Enter | Kind::Store | Kind::Jump | Kind::Free => true,
-        Kind::Run | Kind::Done | Kind::Alloc | Kind::Fork | Kind::Merge => false,
-    }
+    matches!(kind, Kind::Enter | Kind::Store | Kind::Jump | Kind::Free)
 }
 
 // The number of an entry of a kind.
@@ -114,7 +102,7 @@ impl fmt::Display for Number {
         if has_number(self.kind) {
             write!(f, " {number}")
         } else if number == 0 {
-            f.write_str("")
+            Ok(())
         } else {
             write!(f, " (number {number})")
         }

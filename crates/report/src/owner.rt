@@ -6,18 +6,18 @@ use journal::entry::Entry;
 use journal::kind::Kind;
 use std::fmt;
 
-// A process by its number, or a row.
-#[derive(Clone, Copy)]
+// A process by its number, or a row; processes come before rows.
+#[derive(Clone, Copy, PartialEq, Eq, PartialOrd, Ord, Debug)]
 pub enum Owner {
     Process(u16),
     Row(u16),
 }
 
-impl Owner {
-    // An Enter entry belongs to a row, each other one to a process.
-    pub fn of(entry: &Entry) -> Owner
-        ensures { result ≡ owner_of entry.now }
-    {
+// An Enter entry belongs to a row, each other one to a process.
+impl From<&Entry> for Owner {
+    ghost from_gives = { λ entry owner. owner ≡ owner_of entry.now };
+
+    fn from(entry: &Entry) -> Owner {
         match entry.kind {
             Kind::Enter => Owner::Row(entry.owner),
             _ => Owner::Process(entry.owner),

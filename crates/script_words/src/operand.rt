@@ -5,7 +5,7 @@ ghost use Rattle.script_words.specs.Operands.{operator_name, operand_text};
 use instruction::instruction::Operator;
 use std::fmt;
 
-// It is shown with a space before it.
+// It is shown with a space before it. Absent and not an Option around the others, which would have no Display.
 #[derive(Clone, Copy)]
 pub enum Operand {
     Absent,
@@ -18,7 +18,7 @@ impl fmt::Display for Operand {
 
     fn fmt<W: fmt::Write>(&self, f: &mut fmt::Formatter<W>) -> fmt::Result {
         match *self {
-            Operand::Absent => f.write_str(""),
+            Operand::Absent => Ok(()),
             Operand::Number(number) => write!(f, " {number}"),
             Operand::Operation(operator) => {
                 let name = operator_name(operator);

@@ -1,67 +1,69 @@
--- One entry more in a tally.
-use Rattle.std.proofs.Common.{◌≡◌, ℕ, zero, suc, ◌+◌, ◌-◌, ◌^◌, ◌<◌, ◌≤◌, min, Bool, true, false, cond, eqb, List, [], ◌∷◌, ◌++◌, length, Some, unwrap_or, sym, refl, ap, ◌∙◌, subst, arith}
-use Rattle.std.specs.BTreeMap.{BTreeMap}
-use Rattle.std.specs.BTreeMap.{get}
-use Rattle.std.proofs.lemmas.Bool.{eqb-true, eqb-false}
+-- One entry more in the counts.
+use Rattle.std.proofs.Common.{◌≡◌, ℕ, zero, suc, ◌+◌, ◌<◌, ◌≤◌, Bool, true, false, cond, List, [], ◌∷◌, ◌++◌, length, get_or, take, Some, unwrap_or, sym, refl, ap, ◌∙◌, subst, add-zero, add-one, arith}
+use Rattle.std.specs.BTreeMap.{BTreeMap, IsOrdered, Updates, get}
+use Rattle.std.specs.Map.{count_at}
+use Rattle.std.specs.Ordering.{is_eq}
+use Rattle.std.proofs.lemmas.Bool.{eqb-true}
+use Rattle.std.proofs.lemmas.Grind.{common_steps}
+use Rattle.std.proofs.lemmas.List.{take_more, length-take-le}
+use Rattle.std.proofs.lemmas.List.Sums.{sum_by_push, count_by-le-length}
 use Rattle.journal.specs.declared.entry.Entry.{Entry}
 use Rattle.report.specs.declared.owner.Owner.{Owner}
 use Rattle.report.specs.declared.owner.Owner.TheVariants.{Process, Row}
-use Rattle.tally.specs.declared.Tally.{Tally}
+use Rattle.report.specs.contracts.owner.OwnerOrd.TheImpl.{ghosts}
+use Rattle.report.specs.Owners.{owner_cmp}
 use Rattle.report.specs.Words.{owner_of}
-use Rattle.tally.specs.Counts.{same_owner, entries_of, some_if_any, Counts, Tallied, CountedUp}
-use Rattle.std.specs.Ordering.{nat_cmp}
+use Rattle.report.proofs.Owners.{derived_is_owner_cmp}
+use Rattle.tally.specs.Counts.{same_owner, entries_of, some_if_any, Counts}
 
-entries_of_one_more : (o : Owner) (es : List Entry) (e : Entry) → entries_of o (es ++ (e ∷ [])) ≡ cond (same_owner o (owner_of e)) 1 0 + entries_of o es
-entries_of_one_more o [] e = refl
-entries_of_one_more o (x ∷ es) e = omega (arith, entries_of_one_more o es e)
+same_where_equal : (a b : Owner) → is_eq (owner_cmp b a) ≡ same_owner a b
+same_where_equal (Process m) (Process n) = grind (arith, common_steps)
+same_where_equal (Process m) (Row n) = refl
+same_where_equal (Row m) (Process n) = refl
+same_where_equal (Row m) (Row n) = grind (arith, common_steps)
 
-at_most_one : (b : Bool) → cond b 1 0 ≤ 1
-at_most_one true = omega arith
-at_most_one false = omega arith
+same_is_one : (a b : Owner) → same_owner a b ≡ true → a ≡ b
+same_is_one (Process m) (Process n) e = ap (λ n. Process n) (eqb-true m n e)
+same_is_one (Row m) (Row n) e = ap (λ n. Row n) (eqb-true m n e)
+same_is_one (Process m) (Row n) e = cc
+same_is_one (Row m) (Process n) e = cc
 
-entries_of_at_most_all : (o : Owner) (es : List Entry) → entries_of o es ≤ length es
-entries_of_at_most_all o [] = omega arith
-entries_of_at_most_all o (e ∷ es) = omega (arith, entries_of_at_most_all o es, at_most_one (same_owner o (owner_of e)))
-
-told_where_some : (k : ℕ) → 0 < k → Some k ≡ some_if_any k
-told_where_some zero h = absurd (omega arith)
-told_where_some (suc k) h = refl
+told_where_some : (n : ℕ) → Some (n + 1) ≡ some_if_any (n + 1)
+told_where_some n = rw (add-one n) refl
 
 told_back : (k : ℕ) → unwrap_or (some_if_any k) 0 ≡ k
 told_back zero = refl
 told_back (suc k) = refl
 
-module _ {m m' : BTreeMap ℕ ℕ} {count count' : ℕ → ℕ} where
-  same_counts : m' ≡ m → ((n : ℕ) → count' n ≡ count n) → Counts count m → Counts count' m'
-  same_counts same all old = subst (λ x. Counts count' x) (sym same) (record { ordered = old.ordered; told = λ n. old.told n ∙ ap some_if_any (sym (all n)) })
+count_of_owner : (es : List Entry) (m : BTreeMap Owner ℕ) (owner : Owner) → Counts es m → count_at (get owner_cmp m) owner ≡ entries_of owner es
+count_of_owner es m owner before = ap (λ o. unwrap_or o 0) (before.told owner) ∙ told_back (entries_of owner es)
 
-  counted_up_counts : (number : ℕ) → count number + 1 < 2 ^ 64 → ((n : ℕ) → count' n ≡ cond (eqb n number) 1 0 + count n) → CountedUp m m' number → Counts count m → Counts count' m'
-  counted_up_counts number few all up old = record { ordered = up.ordered; told = λ n. told n (eqb n number) refl }
-    where
-      told : (n : ℕ) (b : Bool) → eqb n number ≡ b → get nat_cmp m' n ≡ some_if_any (count' n)
-      told n true e =
-          let same : n ≡ number = eqb-true n number e in
-          let before : unwrap_or (get nat_cmp m number) 0 ≡ count number = ap (λ o. unwrap_or o 0) (old.told number) ∙ told_back (count number) in
-          let more : count' n ≡ 1 + count number = all n ∙ ap (λ b. cond b 1 0 + count n) e ∙ ap (λ k. 1 + count k) same in
-          let least : min (unwrap_or (get nat_cmp m number) 0 + 1) (2 ^ 64 - 1) ≡ count' n = omega arith in
-          let some : 0 < count' n = omega arith in
-          ap (get nat_cmp m') same ∙ up.here ∙ ap (λ k. Some k) least ∙ told_where_some (count' n) some
-      told n false e =
-          let same : count' n ≡ count n = all n ∙ ap (λ b. cond b 1 0 + count n) e ∙ omega arith in
-          up.other n (eqb-false n number e) ∙ old.told n ∙ ap some_if_any (sym same)
+no_count_past_all : (es : List Entry) (m : BTreeMap Owner ℕ) (owner : Owner) → Counts es m → count_at (get ghosts.cmp m) owner ≤ length es
+no_count_past_all es m owner before =
+    let all : count_at (get owner_cmp m) owner ≤ length es = omega (arith, count_of_owner es m owner before, count_by-le-length (λ e. same_owner owner (owner_of e)) es) in
+    subst (λ c. count_at (get c m) owner ≤ length es) (sym derived_is_owner_cmp) all
 
-module _ (seen : List Entry) (e : Entry) (t t' : Tally) (number : ℕ) (few : length seen + 1 < 2 ^ 64) (old : Tallied seen t) where
-  room : (o : Owner) → entries_of o seen + 1 < 2 ^ 64
-  room o = omega (arith, entries_of_at_most_all o seen)
+one_entry_more : (es : List Entry) (e : Entry) (m m' : BTreeMap Owner ℕ) → Counts es m → IsOrdered ghosts.cmp m' → Updates ghosts.cmp m m' (owner_of e) (Some (count_at (get ghosts.cmp m) (owner_of e) + 1)) → Counts (es ++ e ∷ []) m'
+one_entry_more es e m m' before ordered up = record {
+  ordered = subst (λ c. IsOrdered c m') derived_is_owner_cmp ordered;
+  told = λ owner. told owner (same_owner owner (owner_of e)) refl;
+}
+  where
+    updates : Updates owner_cmp m m' (owner_of e) (Some (count_at (get owner_cmp m) (owner_of e) + 1))
+    updates = subst (λ c. Updates c m m' (owner_of e) (Some (count_at (get c m) (owner_of e) + 1))) derived_is_owner_cmp up
 
-  pub process_counted_up : Process number ≡ owner_of e → CountedUp t.processes t'.processes number → t'.rows ≡ t.rows → Tallied (seen ++ (e ∷ [])) t'
-  process_counted_up owner up same = record {
-    processes = counted_up_counts number (room (Process number)) (λ n. entries_of_one_more (Process n) seen e ∙ ap (λ o. cond (same_owner (Process n) o) 1 0 + entries_of (Process n) seen) (sym owner)) up old.processes;
-    rows = same_counts same (λ n. entries_of_one_more (Row n) seen e ∙ ap (λ o. cond (same_owner (Row n) o) 1 0 + entries_of (Row n) seen) (sym owner) ∙ omega arith) old.rows;
-  }
+    one_more : (owner : Owner) → entries_of owner (es ++ e ∷ []) ≡ entries_of owner es + cond (same_owner owner (owner_of e)) 1 0
+    one_more owner = sum_by_push _ es e
 
-  pub row_counted_up : Row number ≡ owner_of e → CountedUp t.rows t'.rows number → t'.processes ≡ t.processes → Tallied (seen ++ (e ∷ [])) t'
-  row_counted_up owner up same = record {
-    processes = same_counts same (λ n. entries_of_one_more (Process n) seen e ∙ ap (λ o. cond (same_owner (Process n) o) 1 0 + entries_of (Process n) seen) (sym owner) ∙ omega arith) old.processes;
-    rows = counted_up_counts number (room (Row number)) (λ n. entries_of_one_more (Row n) seen e ∙ ap (λ o. cond (same_owner (Row n) o) 1 0 + entries_of (Row n) seen) (sym owner)) up old.rows;
-  }
+    told : (owner : Owner) (same : Bool) → same_owner owner (owner_of e) ≡ same → get owner_cmp m' owner ≡ some_if_any (entries_of owner (es ++ e ∷ []))
+    told owner true same = rw (updates.0 owner, same_where_equal owner (owner_of e), same, count_of_owner es m (owner_of e) before, sym (same_is_one owner (owner_of e) same), one_more owner, same) (told_where_some (entries_of owner es))
+    told owner false same = rw (updates.2 owner (same_where_equal owner (owner_of e) ∙ same), before.told owner, one_more owner, same, add-zero (entries_of owner es)) refl
+
+module _ (es : List Entry) (i : ℕ) (m : BTreeMap Owner ℕ) (within : i < length es) (before : Counts (take i es) m) where
+  pub count_below_all : (owner : Owner) → count_at (get ghosts.cmp m) owner + 1 ≤ length es
+  count_below_all owner = omega (arith, no_count_past_all (take i es) m owner before, length-take-le i es (omega arith))
+
+  pub next_is_counted : (e : Entry) (owner : Owner) (m' : BTreeMap Owner ℕ) → e ≡ get_or es i e → owner ≡ owner_of e → IsOrdered ghosts.cmp m' → Updates ghosts.cmp m m' owner (Some (count_at (get ghosts.cmp m) owner + 1)) → Counts (take (i + 1) es) m'
+  next_is_counted e owner m' here own ordered up =
+      let more : take i es ++ e ∷ [] ≡ take (i + 1) es = ap (λ x. take i es ++ x ∷ []) here ∙ sym (take_more es i e within) in
+      subst (λ l. Counts l m') more (one_entry_more (take i es) e m m' before ordered (subst (λ o. Updates ghosts.cmp m m' o (Some (count_at (get ghosts.cmp m) o + 1))) own up))

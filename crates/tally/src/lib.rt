@@ -1,9 +1,10 @@
 // How many entries each process and each row has.
 #![tactic(auto)]
 
-ghost use Rattle.std.specs.Prelude.{◌+◌, ◌^◌, ◌<◌, List, [], ◌∷◌, ◌++◌, length, IfOk, Some, OnOk};
-ghost use Rattle.journal.specs.declared.entry.Entry.{Entry};
-ghost use Rattle.tally.specs.Counts.{Tallied, CountedUp, share_text};
+ghost use Rattle.std.specs.Prelude.{◌+◌, ◌^◌, ◌<◌, IfOk, Some, OnOk};
+ghost use Rattle.std.specs.BTreeMap.{Updates, IsOrdered, get};
+ghost use Rattle.std.specs.Map.{count_at};
+ghost use Rattle.tally.specs.Counts.{Tallied, share_text};
 
 use journal::entry::Entry;
 use report::owner::Owner;
@@ -11,54 +12,35 @@ use std::alloc::{AllocError, Global};
 use std::collections::BTreeMap;
 use std::fmt;
 
-// The counts by number, ascending; who has no entry is not in it.
-#[derive(Drop)]
+// The counts in the order of owners; who has no entry is not in it.
+#[derive(PartialEq, Eq, Debug, Drop)]
 pub struct Tally {
-    pub processes: BTreeMap<u16, usize>,
-    pub rows: BTreeMap<u16, usize>,
+    pub counts: BTreeMap<Owner, usize>,
 }
 
 impl Tally {
     pub fn of(heap: Global, entries: &[Entry]) -> Result<Tally, AllocError>
         ensures { IfOk result (λ tally. Tallied entries.now tally) }
     {
-        let mut tally = Tally::new(heap);
-        for entry in entries.iter().copied() {
-            tally.count(entry)?;
+        let mut counts = BTreeMap::new(heap);
+        for entry in entries {
+            count_up(&mut counts, Owner::from(entry))?;
         }
-        Ok(tally)
-    }
-
-    fn new(heap: Global) -> Tally
-        ensures { Tallied [] result }
-    {
-        Tally {
-            processes: BTreeMap::new(heap),
-            rows: BTreeMap::new(heap),
-        }
-    }
-
-    // Counts one entry more.
-    fn count(&mut self, entry: Entry) -> Result<(), AllocError>
-        ensures { OnOk result ((seen : List Entry) → length seen + 1 < 2 ^ 64 → Tallied seen self.old → Tallied (seen ++ (entry ∷ [])) self.new) }
-    {
-        match Owner::of(&entry) {
-            Owner::Process(number) => count_up(&mut self.processes, number),
-            Owner::Row(number) => count_up(&mut self.rows, number),
-        }
+        Ok(Tally { counts })
     }
 }
 
-fn count_up(counts: &mut BTreeMap<u16, usize>, number: u16) -> Result<(), AllocError>
-    ensures { OnOk result (CountedUp counts.old counts.new number) }
+fn count_up(counts: &mut BTreeMap<Owner, usize>, owner: Owner) -> Result<(), AllocError>
+    requires { count_at (get ⟦<Owner as Ord>⟧.cmp counts.old) owner + 1 < 2 ^ 64 }
+    ensures counted { OnOk result (Updates ⟦<Owner as Ord>⟧.cmp counts.old counts.new owner (Some (count_at (get ⟦<Owner as Ord>⟧.cmp counts.old) owner + 1))) }
+    ensures ordered { IsOrdered ⟦<Owner as Ord>⟧.cmp counts.new }
 {
-    let count = counts.get(&number).copied().unwrap_or(0);
-    counts.insert(number, count.saturating_add(1))?;
+    *counts.entry(owner)?.or_insert(0) += 1;
     Ok(())
 }
 
 // How many entries an owner has.
-#[derive(Clone, Copy)]
+#[derive(Clone, Copy, PartialEq, Eq, Debug)]
 pub struct Share {
     pub owner: Owner,
     pub entries: usize,

@@ -1,6 +1,7 @@
 -- The entries so far are counted.
-use Rattle.tally.specs.Counts.{Tallied}
+use Rattle.std.proofs.Common.{take}
+use Rattle.tally.specs.Counts.{Counts}
 use Rattle.tally.proofs.Tally.of.Given as goal
 
 abbrev pub invariant-loop-entry : goal.invariant-loop-entry
-invariant-loop-entry l = Tallied l.yielded l.tally
+invariant-loop-entry l = Counts (take l.entry-index l.entries) l.counts

@@ -1,0 +1,12 @@
+-- There is room for one entry more, and it is counted.
+use Rattle.std.proofs.Common.{arith}
+use Rattle.tally.proofs.Counting.{count_below_all, next_is_counted}
+use Rattle.tally.proofs.Tally.of.Goals as goal
+
+pub count_up-requires : goal.count_up-requires
+count_up-requires c = omega (arith, count_below_all c.args.entries.now c.loop-entry.entry-index c.loop-entry.counts c.loop-entry-test.true c.loop-entry.invariant c.from.result)
+
+pub loop-entry-preserved : goal.loop-entry-preserved
+loop-entry-preserved c =
+    let up = c.in_ok-count_up.ensures in
+    next_is_counted c.args.entries.now c.loop-entry.entry-index c.loop-entry.counts c.loop-entry-test.true c.loop-entry.invariant c.entry-item.result c.from.result c.count_up.new.counts c.entry-item.is c.from.ensures up.ordered up.counted
