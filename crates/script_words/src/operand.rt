@@ -6,7 +6,7 @@ use instruction::instruction::Operator;
 use std::fmt;
 
 // It is shown with a space before it. Absent and not an Option around the others, which would have no Display.
-#[derive(Clone, Copy)]
+#[derive(Clone, Copy, PartialEq, Eq, Debug)]
 pub enum Operand {
     Absent,
     Number(i32),
