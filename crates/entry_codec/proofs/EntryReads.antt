@@ -16,7 +16,7 @@ use Rattle.journal.specs.declared.refusal.LayRefusal.{LayRefusal}
 use Rattle.journal.specs.Kinds.{kind_number, kind_of}
 use Rattle.journal.proofs.Entries.{same_entry, number_fits}
 use Rattle.journal.proofs.KindNumbers.{kind_of_its_number, number_of_its_kind, kind_number_below}
-use Rattle.entry_codec.specs.Reading.{and_then, standing, judged_part, part_at, owner_of, number_of, entry_of, entry_at}
+use Rattle.entry_codec.specs.Reading.{and_then, standing, judged_part, PartRead, part_at, owner_of, number_of, entry_of, entry_at}
 use Rattle.entry_codec.specs.Writing.{entry_bytes}
 
 -- an entry in range is the one of its parts
@@ -24,6 +24,13 @@ pub entry_of_parts : (e : Entry) (o : ℕ) (k : Kind) (n : ℤ) → e.owner ≡ 
 entry_of_parts e o k n p q r =
     let m : e.owner ≡ o % 32768 = omega arith in
     same_entry e (entry_of o k n) m q (sym (int_wrap_fits w32 e.number (number_fits e)) ∙ ap (int_wrap w32) r)
+
+pub entry_from_parts : (bs : List ℕ) (at : ℕ) (o : ℕ × ℕ) (k : Kind × ℕ) (n : ℤ × ℕ) → part_at owner_of bs at ≡ Ok o → part_at kind_of bs o.1 ≡ Ok k → part_at number_of bs k.1 ≡ Ok n
+    → entry_at bs at ≡ Ok (entry_of o.0 k.0 n.0, n.1)
+entry_from_parts bs at o k n p q r =
+    ap (λ r. and_then r (λ o. and_then (part_at kind_of bs o.1) (λ k. and_then (part_at number_of bs k.1) (λ n. Ok (entry_of o.0 k.0 n.0, n.1))))) p
+    ∙ ap (λ r. and_then r (λ k. and_then (part_at number_of bs k.1) (λ n. Ok (entry_of o.0 k.0 n.0, n.1)))) q
+    ∙ ap (λ r. and_then r (λ n. Ok (entry_of o.0 k.0 n.0, n.1))) r
 
 -- one part of an entry
 part_written : {X : Type 0} (meaning : ℕ → Option X) (bs rest : List ℕ) (at v : ℕ) (x : X) → v < 4294967296 → meaning v ≡ Some x → Ends rest → drop at bs ≡ writing v ++ rest
@@ -48,10 +55,13 @@ read_entry_bytes bs rest at e h d =
     let same : ◌≡◌ {A = Entry × ℕ} (entry_of e.owner e.kind e.number, at + length o + length k + length z) (e, at + length (o ++ (k ++ z))) =
     let l : at + length o + length k + length z ≡ at + length (o ++ (k ++ z)) = omega (arith, length-append o (k ++ z), length-append k z) in
     λ i. (sym (entry_of_parts e e.owner e.kind e.number refl refl refl) i, l i) in
-    ap (λ r. and_then r (λ o. and_then (part_at kind_of bs o.1) (λ k. and_then (part_at number_of bs k.1) (λ n. Ok (entry_of o.0 k.0 n.0, n.1))))) first.0
-    ∙ ap (λ r. and_then r (λ k. and_then (part_at number_of bs k.1) (λ n. Ok (entry_of e.owner k.0 n.0, n.1)))) second.0
-    ∙ ap (λ r. and_then r (λ n. Ok (entry_of e.owner e.kind n.0, n.1))) third.0
-    ∙ ap Ok same
+    entry_from_parts bs at _ _ _ first.0 second.0 third.0 ∙ ap Ok same
+
+-- a part that was read with a meaning that answers as the definition does
+pub part_of_read : {X : Type 0} (means : ℕ → Option X → Type 0) (meaning : ℕ → Option X) → ((n : ℕ) (o : Option X) → means n o → o ≡ meaning n)
+    → (at : ℕ) (r : Result (ℕ × ℕ) Fault) (q : Result (X × ℕ) LayRefusal) → PartRead means at r q → q ≡ judged_part meaning at r
+part_of_read means meaning f at (Ok p) q e = e.2 ∙ ap (standing at p.1) (f p.0 e.0 e.1)
+part_of_read means meaning f at (Err fault) q e = e
 
 -- what stands behind an accepted answer
 then_accepted : {X Y : Type 0} (r : Result X LayRefusal) (next : X → Result Y LayRefusal) (y : Y) → and_then r next ≡ Ok y → (x : X) × (r ≡ Ok x) × (next x ≡ Ok y)

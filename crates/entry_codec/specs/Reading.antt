@@ -1,5 +1,5 @@
 -- How an entry is read: three numbers in turn, each judged as soon as it is read.
-use Rattle.std.specs.Prelude.{ℕ, ◌%◌, ◌≤◌, cond, List, ℤ, Some, None, Ok, Err, Option, Result, nat_le}
+use Rattle.std.specs.Prelude.{◌≡◌, ℕ, ◌%◌, ◌≤◌, cond, List, ℤ, Some, None, Ok, Err, Option, Result, nat_le}
 use Rattle.std.proofs.Common.{arith}
 use Rattle.std.specs.Int.{int_wrap, w32}
 use Rattle.std.proofs.lemmas.Int.{SFits-int_wrap}
@@ -31,6 +31,11 @@ judged_part meaning at (Err fault) = Err (raised fault)
 -- the part of an entry whose number begins at a place
 abbrev pub part_at : {X : Type 0} → (ℕ → Option X) → List ℕ → ℕ → Result (X × ℕ) LayRefusal
 part_at meaning bs at = judged_part meaning at (number_at bs at)
+
+-- the same, where the meaning is what a function may answer
+abbrev pub PartRead : {X : Type 0} → (ℕ → Option X → Type 0) → ℕ → Result (ℕ × ℕ) Fault → Result (X × ℕ) LayRefusal → Type 0
+PartRead {X} means at (Ok p) r = (part : Option X) × means p.0 part × (r ≡ standing at p.1 part)
+PartRead means at (Err fault) r = r ≡ Err (raised fault)
 
 -- which numbers are owners
 abbrev pub owner_of : ℕ → Option ℕ

@@ -2,9 +2,9 @@
 #![tactic(auto)]
 
 ghost use Rattle.std.specs.Prelude.{◌≡◌, ◌+◌, ◌≤◌, length, IfOk};
-ghost use Rattle.journal.specs.Kinds.{kind_of};
 ghost use Rattle.varint.specs.Written.{Wrote};
-ghost use Rattle.entry_codec.specs.Reading.{part_at, owner_of, number_of, entry_at};
+ghost use Rattle.varint.specs.Readings.{number_at};
+ghost use Rattle.entry_codec.specs.Reading.{owner_of, PartRead, entry_at};
 ghost use Rattle.entry_codec.specs.Writing.{entry_bytes, EntryReadBack};
 
 use journal::entry::{Entry, MOST_OWNER};
@@ -13,39 +13,36 @@ use journal::refusal::LayRefusal;
 use varint::number::{NoRoom, read, size, write};
 use varint::zigzag::{fold, unfold};
 
-fn read_owner(bytes: &[u8], at: usize) -> Result<(u16, usize), LayRefusal>
-    ensures answer { result ≡ part_at owner_of bytes.now at }
-    ensures owned { IfOk result (λ p. p.0 ≤ 32767) }
-{
-    let (owner, end) = read(bytes, at)?;
-    match u16::try_from(owner) {
-        Ok(owner @ ..=MOST_OWNER) => Ok((owner, end)),
-        _ => Err(LayRefusal::WrongNumber(at)),
-    }
-}
-
-fn read_kind(bytes: &[u8], at: usize) -> Result<(Kind, usize), LayRefusal>
-    ensures { result ≡ part_at kind_of bytes.now at }
+// A part of an entry, whose number begins at a place, and the place after it. `meaning` says what a number stands for, if for anything.
+fn read_part<T: Drop, F: FnOnce(u32) -> Option<T>>(
+    bytes: &[u8],
+    at: usize,
+    meaning: F,
+) -> Result<(T, usize), LayRefusal>
+    requires { F.IsAlwaysCallable meaning }
+    ensures { PartRead (F.post meaning) at (number_at bytes.now at) result }
 {
     let (number, end) = read(bytes, at)?;
-    let kind = Kind::try_from(number).map_err(|_| LayRefusal::WrongNumber(at))?;
-    Ok((kind, end))
+    let part = meaning(number).ok_or(LayRefusal::WrongNumber(at))?;
+    Ok((part, end))
 }
 
-fn read_number(bytes: &[u8], at: usize) -> Result<(i32, usize), LayRefusal>
-    ensures { result ≡ part_at number_of bytes.now at }
+fn owner_of(number: u32) -> Option<u16>
+    ensures { result ≡ owner_of number }
 {
-    let (folded, end) = read(bytes, at)?;
-    Ok((unfold(folded), end))
+    match u16::try_from(number) {
+        Ok(owner @ ..=MOST_OWNER) => Some(owner),
+        _ => None,
+    }
 }
 
 // The entry that begins at a place, and the place after it.
 pub fn read_entry(bytes: &[u8], at: usize) -> Result<(Entry, usize), LayRefusal>
     ensures { result ≡ entry_at bytes.now at }
 {
-    let (owner, kind_at) = read_owner(bytes, at)?;
-    let (kind, number_at) = read_kind(bytes, kind_at)?;
-    let (number, end) = read_number(bytes, number_at)?;
+    let (owner, kind_at) = read_part(bytes, at, owner_of)?;
+    let (kind, number_at) = read_part(bytes, kind_at, |number| Kind::try_from(number).ok())?;
+    let (number, end) = read_part(bytes, number_at, |folded| Some(unfold(folded)))?;
     let entry = Entry {
         owner,
         kind,

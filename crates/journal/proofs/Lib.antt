@@ -1,4 +1,3 @@
 pub mod Entries
-pub mod Fronts
 pub mod Newest
 pub mod KindNumbers

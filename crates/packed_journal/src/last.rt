@@ -5,7 +5,7 @@ ghost use Rattle.packed_journal.specs.Packing.{last_start, last_entry};
 use entry_codec::read_entry;
 use journal::entry::Entry;
 
-// An entry that ends at the end of bytes, and where it begins.
+// An entry that ends at the end of bytes, and where it begins: named, since the readers' pairs have the place after an entry.
 #[derive(Clone, Copy, PartialEq, Eq, Debug)]
 pub struct Last {
     pub entry: Entry,
@@ -13,6 +13,7 @@ pub struct Last {
 }
 
 // Where the number that ends at a place begins: only a first byte is below 128.
+// Of `rposition` only facts place by place were proved, and not the definition's answer.
 fn start_before(bytes: &[u8], end: usize) -> Option<usize>
     requires { end ≤ length bytes.now }
     ensures answer { result ≡ last_start bytes.now end }

@@ -11,6 +11,7 @@ pub fn read_through(bytes: &[u8]) -> Result<(), LayRefusal>
     ensures unique { OneWriting }
 {
     let mut at = 0;
+    // each turn goes on where the entry that it read ends, so no iterator counts the places
     while at < bytes.len() {
         (_, at) = read_entry(bytes, at)?;
     }
