@@ -5,7 +5,7 @@ use Rattle.std.proofs.lemmas.Bool.{and_parts, cases_lt}
 use Rattle.instruction.specs.declared.instruction.Instruction.{Instruction}
 use Rattle.script.specs.declared.role.FrameKind.{FrameKind}
 use Rattle.script.specs.declared.role.Role.{Role}
-use Rattle.script.specs.declared.role.Role.TheVariants.{Plain, JumpsIf, Jumps, Arrives, BeginsBlock, EndsBlock, Opens, Closes}
+use Rattle.script.specs.declared.role.Role.TheVariants.{Plain, Opens, Closes}
 use Rattle.script.specs.declared.frames.Frame.{Frame}
 use Rattle.script.specs.declared.refusal.ImageRefusal.{ImageRefusal}
 use Rattle.script.specs.Roles.{arrives, by_framing, same_kind}
@@ -71,12 +71,6 @@ same_kind_is_equal : (k l : FrameKind) → same_kind k l ≡ true → k ≡ l
 same_kind_is_equal k l e = grind arith
 
 step_by_role : (r : Role) (a : ℕ) (fs gs : List Frame) → open_after r a fs ≡ Some gs → Step r a fs gs
-step_by_role Plain a fs gs e = stays refl (cc)
-step_by_role (JumpsIf t) a fs gs e = stays refl (cc)
-step_by_role (Jumps t) a fs gs e = stays refl (cc)
-step_by_role Arrives a fs gs e = stays refl (cc)
-step_by_role (BeginsBlock b) a fs gs e = stays refl (cc)
-step_by_role (EndsBlock b) a fs gs e = stays refl (cc)
 step_by_role (Opens kind) a fs gs e =
     let c = cond_is_some (ltb (length fs) 16) (Some (opened kind a 0 ∷ fs)) gs e in
     opens kind refl (cc)
@@ -87,6 +81,7 @@ step_by_role (Closes kind) a (f ∷ fs) gs e =
     let q : kind ≡ f.kind = same_kind_is_equal kind f.kind p.0 in
     let w : gs ≡ without kind fs = cc in
     closes f fs (ap Closes q) (rw q at p.1) refl (rw q at w)
+step_by_role r a fs gs e = stays refl (cc)
 
 -- if the frames are judged to be right, no rule breaks at any address, and behind the last no frame stands open
 module _ (s : List Instruction) (judged : frames_judged s ≡ Ok tt) where

@@ -24,9 +24,8 @@ opener_beside (Forked a) before after = begins_branch after
 
 -- a par end stands before a par begin or a merge
 abbrev pub closer_beside : FrameKind → Role → Bool
-closer_beside (Procedure p) after = true
 closer_beside Branch after = after_branch after
-closer_beside (Forked a) after = true
+closer_beside kind after = true
 
 abbrev pub beside_by : Role → Role → Role → Bool
 beside_by role before after = by_framing true (λ kind. opener_beside kind before after) (λ kind. closer_beside kind after) role
@@ -58,9 +57,8 @@ opening kind a fs = cond (nat_lt (length fs) 16) (Some (opened kind a 0 ∷ fs))
 
 -- a fork has 2 to 7 branches
 abbrev pub right_count : FrameKind → ℕ → Bool
-right_count (Procedure p) branches = true
-right_count Branch branches = true
 right_count (Forked a) branches = nat_le 2 branches && nat_le branches 7
+right_count kind branches = true
 
 -- an ended branch is counted by the frame around it, its fork
 abbrev pub counted : List Frame → List Frame
@@ -68,9 +66,8 @@ counted [] = []
 counted (f ∷ fs) = opened f.kind f.address (suc f.branches) ∷ fs
 
 abbrev pub without : FrameKind → List Frame → List Frame
-without (Procedure p) fs = fs
 without Branch fs = counted fs
-without (Forked a) fs = fs
+without kind fs = fs
 
 -- a closer closes the innermost frame, name for name
 abbrev pub closing : FrameKind → List Frame → Option (List Frame)

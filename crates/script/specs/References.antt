@@ -2,7 +2,7 @@
 use Rattle.std.specs.Prelude.{ℕ, zero, suc, ◌+◌, Bool, cond, ◌&&◌, ◌||◌, List, length, Ok, Err, Result, ◌==◌}
 use Rattle.instruction.specs.declared.instruction.Instruction.{Instruction}
 use Rattle.script.specs.declared.role.Role.{Role}
-use Rattle.script.specs.declared.role.Role.TheVariants.{Plain, JumpsIf, Jumps, Arrives, BeginsBlock, EndsBlock, Opens, Closes}
+use Rattle.script.specs.declared.role.Role.TheVariants.{JumpsIf, Jumps, EndsBlock}
 use Rattle.script.specs.declared.refusal.ImageRefusal.{ImageRefusal}
 use Rattle.script.specs.declared.refusal.ImageRefusal.TheVariants.{EndWithoutBlock, WrongTarget}
 use Rattle.script.specs.Scripts.{some_before}
@@ -27,14 +27,10 @@ fine_or fine refusal = cond fine (Ok tt) (Err refusal)
 
 -- what is wrong with what an instruction refers to, if something is
 abbrev pub judged_by : List Instruction → ℕ → Role → Result (Unit {0}) ImageRefusal
-judged_by s a Plain = Ok tt
 judged_by s a (JumpsIf t) = fine_or (label_for s a t) (WrongTarget a)
 judged_by s a (Jumps t) = fine_or (label_for s a t || call_from s a t) (WrongTarget a)
-judged_by s a Arrives = Ok tt
-judged_by s a (BeginsBlock b) = Ok tt
 judged_by s a (EndsBlock b) = fine_or (has_block s b) (EndWithoutBlock a)
-judged_by s a (Opens kind) = Ok tt
-judged_by s a (Closes kind) = Ok tt
+judged_by s a role = Ok tt
 
 abbrev pub reference_judged : List Instruction → ℕ → Result (Unit {0}) ImageRefusal
 reference_judged s a = judged_by s a (role_at s a)

@@ -2,7 +2,7 @@
 use Rattle.std.specs.Prelude.{ℕ, zero, suc, cond, List, [], ◌∷◌, length, Some, None, Option, ◌==◌}
 use Rattle.instruction.specs.declared.instruction.Instruction.{Instruction}
 use Rattle.script.specs.declared.role.FrameKind.{FrameKind}
-use Rattle.script.specs.declared.role.FrameKind.TheVariants.{Procedure, Branch, Forked}
+use Rattle.script.specs.declared.role.FrameKind.TheVariants.{Forked}
 use Rattle.script.specs.declared.role.Role.{Role}
 use Rattle.script.specs.declared.frames.Frame.{Frame}
 use Rattle.script.specs.Roles.{by_framing}
@@ -23,9 +23,8 @@ around role a fs = by_framing fs (λ kind. opened kind a 0 ∷ fs) (λ kind. fs)
 
 -- the region inside a frame that was opened at an address: a procedure and a branch are regions of their own, a fork is in the one around it
 abbrev pub region_from : FrameKind → ℕ → ℕ → ℕ
-region_from (Procedure p) a outer = a
-region_from Branch a outer = a
 region_from (Forked b) a outer = outer
+region_from kind a outer = a
 
 -- the address of the innermost procedure or branch; 0 is the whole script
 abbrev pub innermost : List Frame → ℕ

@@ -29,26 +29,16 @@ role_of Nop = Plain
 
 -- what is said of an opener, of a closer, and of every other instruction
 abbrev pub by_framing : {X : Type 0} → X → (FrameKind → X) → (FrameKind → X) → Role → X
-by_framing other opener closer Plain = other
-by_framing other opener closer (JumpsIf a) = other
-by_framing other opener closer (Jumps a) = other
-by_framing other opener closer Arrives = other
-by_framing other opener closer (BeginsBlock b) = other
-by_framing other opener closer (EndsBlock b) = other
 by_framing other opener closer (Opens kind) = opener kind
 by_framing other opener closer (Closes kind) = closer kind
+by_framing other opener closer role = other
 
 -- the same kind of frame, name for name
 abbrev pub same_kind : FrameKind → FrameKind → Bool
 same_kind (Procedure p) (Procedure q) = p == q
-same_kind (Procedure p) Branch = false
-same_kind (Procedure p) (Forked b) = false
-same_kind Branch (Procedure q) = false
 same_kind Branch Branch = true
-same_kind Branch (Forked b) = false
-same_kind (Forked a) (Procedure q) = false
-same_kind (Forked a) Branch = false
 same_kind (Forked a) (Forked b) = a == b
+same_kind k l = false
 
 -- the name that an opener gives
 abbrev pub frame_name : FrameKind → Option ℕ
@@ -58,25 +48,14 @@ frame_name (Forked a) = Some a
 
 -- the name that a block, proc or fork gives
 abbrev pub given_name : Role → Option ℕ
-given_name Plain = None
-given_name (JumpsIf a) = None
-given_name (Jumps a) = None
-given_name Arrives = None
 given_name (BeginsBlock b) = Some b
-given_name (EndsBlock b) = None
 given_name (Opens kind) = frame_name kind
-given_name (Closes kind) = None
+given_name role = None
 
 -- the name of a block
 abbrev pub block_name : Role → Option ℕ
-block_name Plain = None
-block_name (JumpsIf a) = None
-block_name (Jumps a) = None
-block_name Arrives = None
 block_name (BeginsBlock b) = Some b
-block_name (EndsBlock b) = None
-block_name (Opens kind) = None
-block_name (Closes kind) = None
+block_name role = None
 
 -- whether a name is the one that is looked for
 abbrev pub is_named : ℕ → Option ℕ → Bool
@@ -85,29 +64,21 @@ is_named b (Some c) = c == b
 
 abbrev pub is_procedure : FrameKind → Bool
 is_procedure (Procedure p) = true
-is_procedure Branch = false
-is_procedure (Forked a) = false
+is_procedure kind = false
 
 abbrev pub is_branch : FrameKind → Bool
-is_branch (Procedure p) = false
 is_branch Branch = true
-is_branch (Forked a) = false
+is_branch kind = false
 
 abbrev pub is_forked : FrameKind → Bool
-is_forked (Procedure p) = false
-is_forked Branch = false
 is_forked (Forked a) = true
+is_forked kind = false
 
 -- jmp or p_return: what follows is not come to from here
 abbrev pub leaves : Role → Bool
-leaves Plain = false
-leaves (JumpsIf a) = false
 leaves (Jumps a) = true
-leaves Arrives = false
-leaves (BeginsBlock b) = false
-leaves (EndsBlock b) = false
-leaves (Opens kind) = false
 leaves (Closes kind) = is_procedure kind
+leaves role = false
 
 -- fork or par end
 abbrev pub before_branch : Role → Bool
@@ -123,14 +94,8 @@ after_branch role = by_framing false is_branch is_forked role
 
 -- label
 abbrev pub arrives : Role → Bool
-arrives Plain = false
-arrives (JumpsIf a) = false
-arrives (Jumps a) = false
 arrives Arrives = true
-arrives (BeginsBlock b) = false
-arrives (EndsBlock b) = false
-arrives (Opens kind) = false
-arrives (Closes kind) = false
+arrives role = false
 
 -- proc
 abbrev pub opens_procedure : Role → Bool
