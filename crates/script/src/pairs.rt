@@ -22,6 +22,7 @@ fn read_pair(bytes: &[u8], place: usize) -> Result<((u32, u32), usize), ImageRef
 }
 
 // All codes and operands of an image.
+#[tactic(auto, using(crate::proofs::Turns::pairs_ended))]
 pub(crate) fn read_pairs(bytes: &[u8]) -> Result<Pairs, ImageRefusal>
     ensures { gathered result ≡ pairs_of bytes.now }
 {

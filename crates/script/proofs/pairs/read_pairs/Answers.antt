@@ -1,6 +1,6 @@
 use Rattle.std.proofs.Common.{sym, arith}
 use Rattle.std.proofs.lemmas.Result.{err_from_is_err_and}
-use Rattle.script.proofs.Turns.{pairs_turn, pairs_ended}
+use Rattle.script.proofs.Turns.{pairs_turn}
 use Rattle.script.proofs.pairs.read_pairs.Goals as goal
 
 pub loop-preserved : goal.loop-preserved
@@ -13,9 +13,3 @@ pub returns-in_err-pair : goal.returns-in_err-pair
 returns-in_err-pair c =
     let p = err_from_is_err_and c.from_residual-in_err-pair.result c.from_residual-in_err-pair.ensures.1 in
     rw (p.1, p.2) (sym (pairs_turn _ _ _ _ _ _ c.loop.invariant.left c.loop-test.true c.in_err-pair.ensures))
-
-pub returns-then-end-bytes : goal.returns-then-end-bytes
-returns-then-end-bytes c = grind (arith, pairs_ended _ _ _ _ _ c.loop.invariant.left c.loop-test.false)
-
-pub returns : goal.returns
-returns c = grind (arith, pairs_ended _ _ _ _ _ c.loop.invariant.left c.loop-test.false)
