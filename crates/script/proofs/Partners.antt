@@ -9,7 +9,6 @@ use Rattle.script.specs.declared.role.Role.TheVariants.{Opens, Closes}
 use Rattle.script.specs.declared.frames.Frame.{Frame}
 use Rattle.script.specs.Frames.{role_at, without, frames_judged}
 use Rattle.script.specs.Regions.{open_before, closed_by, paired, partner_before, partner}
-use Rattle.script.proofs.Outside.{paired_other}
 use Rattle.script.proofs.OpenFrames.{keeps, none_open_last, not_plain_is_within}
 use Rattle.script.proofs.Nesting.{Closed, Passing, keeping, opening, closing, passing}
 
@@ -33,6 +32,9 @@ closed_is_within {s} {kind} {x} {c} l =
 
 closed_by_lem : {s : List Instruction} {kind : FrameKind} {x c : ℕ} → Closed s kind x c → closed_by (role_at s c) (open_before s c) ≡ Some x
 closed_by_lem l = rw (l.closer, l.before)
+
+paired_other : (closer a p opener : ℕ) → (a ≡ opener → ⊥) → (a ≡ closer → ⊥) → paired closer (Some opener) a p ≡ p
+paired_other closer a p opener n m = grind arith
 
 paired_own : (closer opener p q : ℕ) → opener < closer → (paired closer (Some opener) opener p ≡ closer) × (paired closer (Some opener) closer q ≡ opener)
 paired_own closer opener p q l = grind arith

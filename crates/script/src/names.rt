@@ -5,7 +5,7 @@ ghost use Rattle.script.specs.References.{has_block};
 ghost use Rattle.script.specs.Held.{list_of};
 
 use crate::instructions::Instructions;
-use crate::role::{Role, role_of};
+use crate::role::Role;
 
 // Whether the instruction at an address gives no name that was given before.
 pub(crate) fn is_fresh(script: &Instructions, address: usize) -> bool
@@ -16,7 +16,7 @@ pub(crate) fn is_fresh(script: &Instructions, address: usize) -> bool
             .as_slice()
             .iter()
             .take(address.saturating_sub(1))
-            .any(|earlier| role_of(*earlier).given_name() == Some(name)),
+            .any(|earlier| Role::from(*earlier).given_name() == Some(name)),
         None => true,
     }
 }
@@ -24,5 +24,5 @@ pub(crate) fn is_fresh(script: &Instructions, address: usize) -> bool
 pub(crate) fn has_block(script: &Instructions, name: u8) -> bool
     ensures { result ≡ has_block (list_of script.now) name }
 {
-    script.as_slice().iter().any(|instruction| role_of(*instruction) == Role::BeginsBlock(name))
+    script.as_slice().iter().any(|instruction| Role::from(*instruction) == Role::BeginsBlock(name))
 }

@@ -26,22 +26,24 @@ pub(crate) enum Role {
     Closes(FrameKind),
 }
 
-pub(crate) fn role_of(instruction: Instruction) -> Role
-    ensures { result ≡ role_of instruction }
-{
-    match instruction {
-        Instruction::Jpc(target) => Role::JumpsIf(target),
-        Instruction::Jmp(target) => Role::Jumps(target),
-        Instruction::Label => Role::Arrives,
-        Instruction::Block(name) => Role::BeginsBlock(name),
-        Instruction::End(name) => Role::EndsBlock(name),
-        Instruction::Proc(name) => Role::Opens(FrameKind::Procedure(name)),
-        Instruction::PReturn(name) => Role::Closes(FrameKind::Procedure(name)),
-        Instruction::ParBegin => Role::Opens(FrameKind::Branch),
-        Instruction::ParEnd => Role::Closes(FrameKind::Branch),
-        Instruction::Fork(name) => Role::Opens(FrameKind::Forked(name)),
-        Instruction::Merge(name) => Role::Closes(FrameKind::Forked(name)),
-        _ => Role::Plain,
+impl From<Instruction> for Role {
+    ghost from_gives = { λ instruction role. role ≡ role_of instruction };
+
+    fn from(instruction: Instruction) -> Role {
+        match instruction {
+            Instruction::Jpc(target) => Role::JumpsIf(target),
+            Instruction::Jmp(target) => Role::Jumps(target),
+            Instruction::Label => Role::Arrives,
+            Instruction::Block(name) => Role::BeginsBlock(name),
+            Instruction::End(name) => Role::EndsBlock(name),
+            Instruction::Proc(name) => Role::Opens(FrameKind::Procedure(name)),
+            Instruction::PReturn(name) => Role::Closes(FrameKind::Procedure(name)),
+            Instruction::ParBegin => Role::Opens(FrameKind::Branch),
+            Instruction::ParEnd => Role::Closes(FrameKind::Branch),
+            Instruction::Fork(name) => Role::Opens(FrameKind::Forked(name)),
+            Instruction::Merge(name) => Role::Closes(FrameKind::Forked(name)),
+            _ => Role::Plain,
+        }
     }
 }
 

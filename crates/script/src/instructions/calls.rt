@@ -4,7 +4,7 @@ ghost use Rattle.script.specs.Frames.{role_at};
 ghost use Rattle.script.specs.Held.{list_of};
 
 use super::{Instructions, MOST_INSTRUCTIONS};
-use crate::role::{Role, role_of};
+use crate::role::Role;
 use instruction::instruction::Instruction;
 
 impl Instructions {
@@ -47,7 +47,7 @@ impl Instructions {
     pub(crate) fn role(&self, address: usize) -> Role
         ensures { result ≡ role_at (list_of self.now) address }
     {
-        role_of(self.at(address))
+        Role::from(self.at(address))
     }
 
     // One more.
