@@ -31,6 +31,7 @@ impl<J: Journal> Delta<J> {
     }
 
     // The empty layer on the journal, or the journal back. A list fits where its differences from 0 on fit below.
+    #[tactic(auto, using(crate::proofs::Back::numbers_come_back))]
     pub fn lay(journal: J) -> Result<Delta<J>, Refused<J>>
         ensures laid { IfOk result (λ d. (J.entries journal ≡ []) × (d.below ≡ journal) × (d.kept ≡ pos 0) × (originals d.kept (J.entries d.below) ≡ [])) }
         ensures rule { IfOk result (λ d. differences_fit (J.fits d.below) (pos 0) ≡ differences_fit (J.fits journal) (pos 0)) }

@@ -29,6 +29,7 @@ pub struct PackedJournal<'a> {
 }
 
 // Whether a journal can be laid on bytes of which the first `used` hold entries already.
+#[tactic(auto, using(crate::proofs::Layings::yield_each_other_back, crate::proofs::Layings::one_writing))]
 pub fn ask(bytes: &[u8], used: usize) -> Result<(), LayRefusal>
     ensures answer { Asked bytes.now used result }
     ensures back { YieldEachOtherBack }
@@ -67,6 +68,7 @@ impl<'a> PackedJournal<'a> {
         &self.bytes[..self.used]
     }
 
+    #[tactic(auto, using(crate::proofs::Changes::last_of))]
     fn last(&self) -> Option<Last>
         ensures { LastOf (bytes_of self.now) self.now.used result }
     {
@@ -82,6 +84,7 @@ impl<'a> Journal for PackedJournal<'a> {
     ghost fits = { rule_of };
 
     // As the trait has it; and only the bytes of the entry are written.
+    #[tactic(auto, using(crate::proofs::Changes::longer, crate::proofs::Changes::no_longer, crate::proofs::Changes::same_journal))]
     fn push(&mut self, entry: Entry) -> Result<(), Full>
         ensures answer { result ≡ push_answer (rule_of self.old) (list_of self.old) entry }
         ensures list { list_of self.new ≡ pushed (rule_of self.old) (list_of self.old) entry }

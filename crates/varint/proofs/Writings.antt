@@ -65,6 +65,8 @@ size_4 n l h = size_next n 3 16384 2097152 size_3 (omega arith) l h
 pub size_5 : (n : ℕ) → 268435456 ≤ n → n < 34359738368 → length (writing n) ≡ 5
 size_5 n l h = size_next n 4 2097152 268435456 size_4 (omega arith) l h
 
+pub ruleset sizes = (size_small, size_2, size_3, size_4, size_5)
+
 pub size_most : (n : ℕ) → n < 4294967296 → length (writing n) ≤ 5
 size_most n h =
     ⊎_elim (λ l. omega (arith, size_small n l)) (λ g.
@@ -99,3 +101,5 @@ put_more xs ys at last n w h l =
           ∙ ap (λ t. take at xs ++ t) (sym (append_assoc high ((128 + n % 128) ∷ []) after))
           ∙ ap (λ t. take at xs ++ (t ++ after)) (sym (writing_step n l));
     }
+
+pub ruleset puts = (size_small, size_step, put_small, put_more)

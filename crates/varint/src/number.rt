@@ -77,6 +77,7 @@ pub fn read(bytes: &[u8], at: usize) -> Result<(u32, usize), Fault>
 }
 
 // How many bytes a number takes.
+#[tactic(auto, using(crate::proofs::Writings::sizes))]
 pub fn size(n: u32) -> usize
     ensures { (result ≡ length (writing n)) × (result ≤ 5) }
 {
@@ -90,6 +91,7 @@ pub fn size(n: u32) -> usize
 }
 
 // Writes a number from a place on, and answers the place after it.
+#[tactic(auto, using(crate::proofs::Writings::puts, crate::proofs::Readings::written_read_back))]
 fn put(bytes: &mut [u8], at: usize, n: u32) -> usize
     requires { at + length (writing n) ≤ length bytes.old }
     ensures written { Written bytes.old at (writing n) result bytes.new }
