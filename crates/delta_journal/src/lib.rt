@@ -38,6 +38,7 @@ impl<J: Journal> Delta<J> {
         ensures numbers_come_back { OnOk result (NumbersComeBack) }
         ensures handed_back { IfErr result (λ f. (J.entries journal ≢ []) × (f.back ≡ journal) × (f.refusal ≡ LayRefusal.EntryBeneath) × (told f.refusal ≡ (14, 0))) }
     {
+        // `match` hands the journal back, which `?` would drop
         match Delta::ask(&journal) {
             Ok(()) => Ok(Delta {
                 below: journal,

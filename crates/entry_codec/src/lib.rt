@@ -68,6 +68,7 @@ fn put_entry(bytes: &mut [u8], at: usize, entry: Entry) -> Result<usize, NoRoom>
 }
 
 // Writes an entry from a place on, and answers the place after it; where it does not fit, nothing is written.
+// The test is that of `write` over another size: a function for both would be as long as the two lines.
 pub fn write_entry(bytes: &mut [u8], at: usize, entry: Entry) -> Result<usize, NoRoom>
     ensures answer { Wrote bytes.old at (entry_bytes entry) result bytes.new }
     ensures back { IfOk result (λ end. EntryReadBack bytes.new at entry end) }

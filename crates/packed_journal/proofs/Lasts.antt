@@ -1,5 +1,5 @@
 -- The entry that is found from the end is the one that was written there.
-use Rattle.std.proofs.Common.{◌≡◌, ℕ, zero, suc, ◌-◌, ◌<◌, ◌≤◌, true, false, cond, ltb, List, ◌++◌, length, get_or, take, drop, Some, None, Ok, Err, Option, Result, sym, refl, ap, ◌∙◌, subst, ⊎_elim, arith}
+use Rattle.std.proofs.Common.{◌≡◌, ℕ, zero, suc, ◌<◌, ◌≤◌, true, false, cond, IfNone, IfSome, ltb, List, ◌++◌, length, get_or, take, drop, Some, None, Ok, Err, Option, Result, sym, refl, ap, ◌∙◌, subst, ⊎_elim, arith}
 use Rattle.std.proofs.lemmas.List.{append-nil, drop_all, take-append-drop}
 use Rattle.std.proofs.lemmas.Bool.{ltb-true, ltb-false, lt-ltb, le-ltb, cases_lt, cases_order}
 use Rattle.varint.specs.Readings.{WritingAt}
@@ -49,20 +49,6 @@ begins_start bs (suc n) s b =
     (cases_lt s n)
 
 -- one step down
-pub start_here : (bs : List ℕ) (n : ℕ) → 0 < n → get_or bs (n - 1) 0 < 128 → last_start bs n ≡ Some (n - 1)
-start_here bs n p h = begins_start bs n (n - 1) (record { before = omega arith; first = h; later = λ i l u. absurd (omega arith) })
-
-pub start_lower : (bs : List ℕ) (n : ℕ) → 0 < n → 128 ≤ get_or bs (n - 1) 0 → last_start bs n ≡ last_start bs (n - 1)
-unfolding last_start
-start_lower bs zero p h = absurd (omega arith)
-start_lower bs (suc n) p h =
-    let k : suc n - 1 ≡ n = omega arith in
-    ap (λ t. cond t (Some n) (last_start bs n)) (le-ltb (get_or bs n 0) 128 (subst (λ m. 128 ≤ get_or bs m 0) k h)) ∙ ap (last_start bs) (sym k)
-
-pub start_nowhere : (bs : List ℕ) → last_start bs 0 ≡ None
-unfolding last_start
-start_nowhere bs = refl
-
 own_begins : (bs : List ℕ) (at v end : ℕ) → WritingAt bs at v end → Begins bs at end
 own_begins bs at v end o = record { before = o.forward; first = own_first bs at v end o; later = λ i. own_later bs at v end i o }
 
@@ -136,3 +122,15 @@ last_bytes bs l e =
     bytes_read bs l.start r.placed r.read ∙ (λ i. entry_bytes (r.entry i) ++ drop (r.end i) bs)
     ∙ ap (λ t. entry_bytes l.entry ++ t) (drop_all (length bs) bs (omega arith)) ∙ append-nil (entry_bytes l.entry) in
     sym (take-append-drop l.start bs) ∙ ap (λ t. take l.start bs ++ t) here
+
+no_start : (bs : List ℕ) (n : ℕ) → ((k : ℕ) → k < n → 128 ≤ get_or bs k 0) → last_start bs n ≡ None
+unfolding last_start
+no_start bs zero h = refl
+no_start bs (suc n) h =
+    ap (λ t. cond t (Some n) (last_start bs n)) (le-ltb (get_or bs n 0) 128 (h n (omega arith)))
+    ∙ no_start bs n (λ k l. h k (omega arith))
+
+-- what is found from the end on is the last place where a number begins
+pub last_found : (bs : List ℕ) (end : ℕ) (found : Option ℕ) → IfNone found ((k : ℕ) → k < end → 128 ≤ get_or bs k 0) → IfSome found (λ start. (start < end) × (get_or bs start 0 < 128) × ((k : ℕ) → start < k → k < end → 128 ≤ get_or bs k 0)) → found ≡ last_start bs end
+last_found bs end None n h = sym (no_start bs end n)
+last_found bs end (Some start) n h = sym (begins_start bs end start (record { before = h.0; first = h.1; later = h.2 }))

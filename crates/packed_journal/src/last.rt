@@ -1,6 +1,6 @@
 // The newest entry, found from the used end.
-ghost use Rattle.std.specs.Prelude.{◌≡◌, ◌<◌, ◌≤◌, length, IfSome};
-ghost use Rattle.packed_journal.specs.Packing.{last_start, last_entry};
+ghost use Rattle.std.specs.Prelude.{◌≡◌, ℕ, ◌<◌, ◌≤◌, length, slice_index, IfNone, IfSome};
+ghost use Rattle.packed_journal.specs.Packing.{last_entry};
 
 use entry_codec::read_entry;
 use journal::entry::Entry;
@@ -13,22 +13,16 @@ pub struct Last {
 }
 
 // Where the number that ends at a place begins: only a first byte is below 128.
-// Of `rposition` only facts place by place were proved, and not the definition's answer.
 fn start_before(bytes: &[u8], end: usize) -> Option<usize>
     requires { end ≤ length bytes.now }
-    ensures answer { result ≡ last_start bytes.now end }
-    ensures within { IfSome result (λ start. start < end) }
+    ensures none { IfNone result ((k : ℕ) → k < end → 128 ≤ slice_index bytes.now k) }
+    ensures last { IfSome result (λ start. (start < end) × (slice_index bytes.now start < 128) × ((k : ℕ) → start < k → k < end → 128 ≤ slice_index bytes.now k)) }
 {
-    for at in (0..end).rev() {
-        if bytes[at] < 128 {
-            return Some(at);
-        }
-    }
-    None
+    bytes[..end].iter().rposition(|byte| *byte < 128)
 }
 
 // The entry that ends where the bytes end.
-#[tactic(auto, unfolding(crate::specs::Packing::last_entry))]
+#[tactic(auto, unfolding(crate::specs::Packing::last_entry), using(crate::proofs::Lasts::last_found))]
 pub fn last_entry(bytes: &[u8]) -> Option<Last>
     ensures { result ≡ last_entry bytes.now }
 {

@@ -16,7 +16,7 @@ pub struct Line {
     pub entry: Entry,
 }
 
-// The lines for a journal's entries, the newest first as they are.
+// The lines for a journal's entries, the newest first as they are. Positions go down, so this is no numbering from 1 on.
 pub fn lines(heap: Global, entries: &[Entry]) -> Result<Vec<Line>, AllocError>
     ensures { IfOk result (λ v. v.items ≡ lines_of entries.now) }
 {
@@ -48,6 +48,7 @@ impl fmt::Display for Line {
     }
 }
 
+// The words for a kind are functions: a method or a `Display` would have to stand in the crate of `Kind`.
 fn kind_name(kind: Kind) -> &'static str
     ensures { result.now ≡ kind_name kind }
 {

@@ -72,7 +72,7 @@ impl ImageRefusal {
     }
 }
 
-// Its number comes first.
+// Its number comes first. Only this one line is as a refused journal's; a place for both would be a crate below them for it alone.
 impl fmt::Display for ImageRefusal {
     ghost output = { λ refusal. Some (refusal_text refusal) };
 
