@@ -7,7 +7,7 @@ use crate::instructions::MOST_INSTRUCTIONS;
 pub mod judging;
 
 // By address, from address 1 on: 0 where there is no partner, and for the whole script as a region.
-// Two tables, since a script keeps the partners alone; and 0 for no partner, since that is what a script answers.
+// Two tables, since a script keeps the partners alone; 0 in place of None, which would make them twice as large: `partner` answers the Option.
 #[derive(Drop)]
 pub struct Links {
     frames: OpenFrames,

@@ -86,7 +86,7 @@ impl fmt::Display for ImageRefusal {
 
 impl Error for ImageRefusal {}
 
-// A fault of a number in an image; its place is kept.
+// A fault of a number in an image; its place is kept. The cases are other ones than a journal's, so each has its table.
 impl From<Fault> for ImageRefusal {
     ghost from_gives = { λ fault r. r ≡ raised fault };
 

@@ -28,6 +28,7 @@ impl fmt::Display for Operand {
     }
 }
 
+// A function: a method or a `Display` would have to stand in the crate of `Operator`.
 fn operator_name(operator: Operator) -> &'static str
     ensures { result.now ≡ operator_name operator }
 {
