@@ -1,4 +1,8 @@
 // The instructions of a script.
+ghost use Rattle.std.specs.Prelude.{Some};
+ghost use Rattle.instruction.specs.OperatorWords.{operator_name};
+
+use std::fmt;
 
 // What `op` does with the two numbers l and r that it pops.
 #[derive(Clone, Copy, PartialEq, Eq, Debug)]
@@ -8,6 +12,20 @@ pub enum Operator {
     Subtract, // l - r
     Greater, // 1 if l > r, else 0
     Equal, // 1 if l == r, else 0
+}
+
+impl fmt::Display for Operator {
+    ghost output = { λ operator. Some (operator_name operator) };
+
+    fn fmt<W: fmt::Write>(&self, f: &mut fmt::Formatter<W>) -> fmt::Result {
+        f.write_str(match self {
+            Operator::Add => "add",
+            Operator::Multiply => "multiply",
+            Operator::Subtract => "subtract",
+            Operator::Greater => "greater",
+            Operator::Equal => "equal",
+        })
+    }
 }
 
 // A variable is 0 to 63, a name 1 to 255, and a target the address of an instruction.

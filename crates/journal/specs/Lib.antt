@@ -1,4 +1,5 @@
 pub mod Kinds
+pub mod KindNames
 pub mod Refusals
 pub mod RefusalWords
 pub mod Meaning

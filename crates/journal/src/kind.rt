@@ -1,6 +1,9 @@
 // The kinds of entries and their numbers.
 ghost use Rattle.std.specs.Prelude.{◌≡◌, Some};
 ghost use Rattle.journal.specs.Kinds.{kind_number, kind_of, KindOrUnknown};
+ghost use Rattle.journal.specs.KindNames.{kind_name};
+
+use std::fmt;
 
 // What an entry records.
 #[derive(Clone, Copy, PartialEq, Eq, Debug)]
@@ -48,5 +51,23 @@ impl TryFrom<u32> for Kind {
             9 => Ok(Kind::Merge),
             _ => Err(UnknownKind(number)),
         }
+    }
+}
+
+impl fmt::Display for Kind {
+    ghost output = { λ kind. Some (kind_name kind) };
+
+    fn fmt<W: fmt::Write>(&self, f: &mut fmt::Formatter<W>) -> fmt::Result {
+        f.write_str(match self {
+            Kind::Run => "Run",
+            Kind::Done => "Done",
+            Kind::Enter => "Enter",
+            Kind::Store => "Store",
+            Kind::Jump => "Jump",
+            Kind::Alloc => "Alloc",
+            Kind::Free => "Free",
+            Kind::Fork => "Fork",
+            Kind::Merge => "Merge",
+        })
     }
 }

@@ -20,6 +20,7 @@ fn main(rt: HostRuntime) -> ExitCode {
     ended(&rt, run(&rt))
 }
 
+// One `run` for both programs, with what is shown as a closure, would borrow the usage for another lifetime.
 fn run(rt: &HostRuntime) -> Result<(), Failure<ImageRefusal>> {
     let Some(bytes) = asked(rt, USAGE)? else {
         return Ok(());

@@ -72,6 +72,7 @@ fn put_pairs(script: &Script, bytes: &mut [u8], at: usize) -> Result<usize, NoRo
 }
 
 // Writes the mirrored script at the front of a buffer that has room for it, and answers its length.
+// Script and buffer go together through three functions: a struct of the two would be taken apart at once in each.
 fn put_mirror(script: &Script, buffer: &mut [u8]) -> Result<usize, NoRoom>
     requires { length (mirror_image (instructions_of script.now)) ≤ length buffer.old }
     ensures { Wrote buffer.old 0 (mirror_image (instructions_of script.now)) result buffer.new }

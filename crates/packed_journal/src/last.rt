@@ -6,6 +6,7 @@ use entry_codec::read_entry;
 use journal::entry::Entry;
 
 // An entry that ends at the end of bytes, and where it begins: named, since the readers' pairs have the place after an entry.
+// One type for this and a slot journal's `Newest` would be a public name for two private uses.
 #[derive(Clone, Copy, PartialEq, Eq, Debug)]
 pub struct Last {
     pub entry: Entry,

@@ -51,6 +51,7 @@ impl<'a> PackedJournal<'a> {
         ensures back { YieldEachOtherBack }
         ensures unique { OneWriting }
     {
+        // `match` hands the borrow back, which `?` would not
         match ask(bytes, used) {
             Ok(()) => Ok(PackedJournal { bytes, used }),
             Err(refusal) => Err(Refused {
@@ -83,7 +84,7 @@ impl<'a> Journal for PackedJournal<'a> {
 
     ghost fits = { rule_of };
 
-    // As the trait has it; and only the bytes of the entry are written.
+    // As the trait has it, whose clauses these take the place of; and only the bytes of the entry are written.
     #[tactic(auto, using(crate::proofs::Changes::longer, crate::proofs::Changes::no_longer, crate::proofs::Changes::same_journal))]
     fn push(&mut self, entry: Entry) -> Result<(), Full>
         ensures answer { result ≡ push_answer (rule_of self.old) (list_of self.old) entry }
@@ -103,7 +104,7 @@ impl<'a> Journal for PackedJournal<'a> {
         Some(self.last()?.entry)
     }
 
-    // As the trait has it; and the bytes keep their contents.
+    // As the trait has it, whose clauses these take the place of; and the bytes keep their contents.
     fn pop(&mut self) -> Option<Entry>
         ensures answer { result ≡ newest_of (list_of self.old) }
         ensures list { list_of self.new ≡ older_of (list_of self.old) }

@@ -7,7 +7,7 @@ use std::alloc::AllocError;
 use std::error::Error;
 use std::{fmt, io};
 
-// R says why what was read is refused.
+// R says why what was read is refused. By hand and not by thiserror, whose words and conversions have no contract.
 #[derive(Debug, Drop)]
 pub enum Failure<R> {
     // Words that ask for nothing; the program's usage answers them.

@@ -4,6 +4,7 @@ use Rattle.std.specs.Fmt.{signed_decimal}
 use Rattle.journal.specs.declared.entry.Entry.{Entry}
 use Rattle.journal.specs.declared.kind.Kind.{Kind}
 use Rattle.journal.specs.declared.kind.Kind.TheVariants.{Run, Done, Enter, Store, Jump, Alloc, Free, Fork, Merge}
+use Rattle.journal.specs.KindNames.{kind_name}
 use Rattle.report.specs.declared.owner.Owner.{Owner}
 use Rattle.report.specs.declared.owner.Owner.TheVariants.{Process, Row}
 
@@ -25,17 +26,6 @@ owner_of e = owner_by e.kind e.owner
 abbrev pub owner_text : Owner → List ℕ
 owner_text (Process n) = codes "process " ++ decimal n
 owner_text (Row n) = codes "row " ++ decimal n
-
-abbrev pub kind_name : Kind → List ℕ
-kind_name Run = codes "Run"
-kind_name Done = codes "Done"
-kind_name Enter = codes "Enter"
-kind_name Store = codes "Store"
-kind_name Jump = codes "Jump"
-kind_name Alloc = codes "Alloc"
-kind_name Free = codes "Free"
-kind_name Fork = codes "Fork"
-kind_name Merge = codes "Merge"
 
 -- what an entry of the kind says
 abbrev pub kind_words : Kind → List ℕ

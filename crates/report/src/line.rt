@@ -1,7 +1,7 @@
 // The lines for entries.
 ghost use Rattle.std.specs.Prelude.{◌≡◌, IfOk, Some};
 ghost use Rattle.report.specs.Numbering.{lines_of};
-ghost use Rattle.report.specs.Words.{kind_name, kind_words, has_number, number_text, line_text};
+ghost use Rattle.report.specs.Words.{kind_words, has_number, number_text, line_text};
 
 use crate::owner::Owner;
 use journal::entry::Entry;
@@ -38,33 +38,16 @@ impl fmt::Display for Line {
         let position = self.position;
         let owner = Owner::from(&self.entry);
         let kind = self.entry.kind;
-        let name = kind_name(kind);
         let words = kind_words(kind);
         let number = Number {
             kind,
             number: self.entry.number,
         };
-        write!(f, "{position}  {owner}  {name}  {words}{number}")
+        write!(f, "{position}  {owner}  {kind}  {words}{number}")
     }
 }
 
-// The words for a kind are functions: a method or a `Display` would have to stand in the crate of `Kind`.
-fn kind_name(kind: Kind) -> &'static str
-    ensures { result.now ≡ kind_name kind }
-{
-    match kind {
-        Kind::Run => "Run",
-        Kind::Done => "Done",
-        Kind::Enter => "Enter",
-        Kind::Store => "Store",
-        Kind::Jump => "Jump",
-        Kind::Alloc => "Alloc",
-        Kind::Free => "Free",
-        Kind::Fork => "Fork",
-        Kind::Merge => "Merge",
-    }
-}
-
+// What an entry of the kind says. A function: the one `Display` of a kind is its name.
 fn kind_words(kind: Kind) -> &'static str
     ensures { result.now ≡ kind_words kind }
 {

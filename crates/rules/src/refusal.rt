@@ -7,33 +7,23 @@ use script::refusal::ImageRefusal;
 // Why a step halts.
 #[derive(Clone, Copy, PartialEq, Eq, Debug)]
 pub enum Cause {
-    StackShort, // fewer operands than the instruction pops
-    StackFull, // no room for one more operand
-    OutOfRange, // the result has more than 32 bits
-    NoVariable, // no such variable
-    AlreadyDeclared, // the variable is declared at this path already
-    TooManyVariables, // 64 are declared
-    PathFull, // the path has 32 names
-    WrongNames, // not the innermost name, or names or variables are left that must not be
-    TooManyProcesses, // a seventeenth process, or a number too large
+    StackShort = 1, // fewer operands than the instruction pops
+    StackFull = 2, // no room for one more operand
+    OutOfRange = 3, // the result has more than 32 bits
+    NoVariable = 4, // no such variable
+    AlreadyDeclared = 5, // the variable is declared at this path already
+    TooManyVariables = 6, // 64 are declared
+    PathFull = 7, // the path has 32 names
+    WrongNames = 8, // not the innermost name, or names or variables are left that must not be
+    TooManyProcesses = 9, // a seventeenth process, or a number too large
 }
 
 impl Cause {
-    // The number by which users know the cause. A table and no discriminants, as of the refusals, two of which share a number.
+    // The number by which users know the cause.
     pub fn number(self) -> u32
         ensures { result ≡ cause_number self }
     {
-        match self {
-            Cause::StackShort => 1,
-            Cause::StackFull => 2,
-            Cause::OutOfRange => 3,
-            Cause::NoVariable => 4,
-            Cause::AlreadyDeclared => 5,
-            Cause::TooManyVariables => 6,
-            Cause::PathFull => 7,
-            Cause::WrongNames => 8,
-            Cause::TooManyProcesses => 9,
-        }
+        self as u32
     }
 }
 

@@ -21,10 +21,13 @@ pub struct Frame {
 #[derive(Clone, Copy, PartialEq, Eq, Debug)]
 pub(crate) struct Misfit;
 
-// The outermost frame first; as many as can be open.
+// As many as can be open.
+const MOST_OPEN: usize = 16;
+
+// The outermost frame first.
 #[derive(Drop)]
 pub struct OpenFrames {
-    frames: ArrayVec<Frame, 16>,
+    frames: ArrayVec<Frame, MOST_OPEN>,
 }
 
 // The innermost frame first.

@@ -26,6 +26,7 @@ impl Referring<'_> {
     fn is_label(&self, target: usize) -> bool
         ensures { result ≡ label_for (list_of self.now.script.now) self.now.address target }
     {
+        // what arrives stands within the script, so the index does too
         self.script.role(target).arrives()
             && self.links.regions[target - 1] == self.links.regions[self.address - 1]
     }

@@ -3,6 +3,6 @@
 
 pub mod line;
 pub mod mirror_line;
-mod operand;
+pub mod operand;
 #[cfg(test)]
 mod tests;

@@ -43,6 +43,7 @@ pub(crate) fn numbered<I: Copy, T: Iterator<Item = I> + Drop>(
     ensures { IfOk result (λ v. (all : List I) × Drains T.next_gives instructions all × (v.items ≡ lines_of all)) }
 {
     let mut lines = Vec::new(heap);
+    // `collect` would ask the callers for a bound on how many come
     for instruction in instructions {
         let address = lines.len() + 1;
         lines.push(Line {

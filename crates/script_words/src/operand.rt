@@ -1,6 +1,6 @@
 // What stands behind the name of an instruction.
-ghost use Rattle.std.specs.Prelude.{◌≡◌, Some};
-ghost use Rattle.script_words.specs.Operands.{operator_name, operand_text};
+ghost use Rattle.std.specs.Prelude.{Some};
+ghost use Rattle.script_words.specs.Operands.{operand_text};
 
 use instruction::instruction::Operator;
 use std::fmt;
@@ -20,23 +20,7 @@ impl fmt::Display for Operand {
         match *self {
             Operand::Absent => Ok(()),
             Operand::Number(number) => write!(f, " {number}"),
-            Operand::Operation(operator) => {
-                let name = operator_name(operator);
-                write!(f, " {name}")
-            }
+            Operand::Operation(operator) => write!(f, " {operator}"),
         }
-    }
-}
-
-// A function: a method or a `Display` would have to stand in the crate of `Operator`.
-fn operator_name(operator: Operator) -> &'static str
-    ensures { result.now ≡ operator_name operator }
-{
-    match operator {
-        Operator::Add => "add",
-        Operator::Multiply => "multiply",
-        Operator::Subtract => "subtract",
-        Operator::Greater => "greater",
-        Operator::Equal => "equal",
     }
 }

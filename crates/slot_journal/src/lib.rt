@@ -53,7 +53,7 @@ impl<'a> Journal for SlotJournal<'a> {
 
     ghost fits = { rule_of };
 
-    // As the trait has it; and only the place of the entry is written.
+    // As the trait has it, whose clauses these take the place of; and only the place of the entry is written.
     fn push(&mut self, entry: Entry) -> Result<(), Full>
         ensures answer { result ≡ push_answer (rule_of self.old) (list_of self.old) entry }
         ensures list { list_of self.new ≡ pushed (rule_of self.old) (list_of self.old) entry }
@@ -73,7 +73,7 @@ impl<'a> Journal for SlotJournal<'a> {
         Some(self.last()?.entry)
     }
 
-    // As the trait has it; and the table keeps its contents.
+    // As the trait has it, whose clauses these take the place of; and the table keeps its contents.
     fn pop(&mut self) -> Option<Entry>
         ensures answer { result ≡ newest_of (list_of self.old) }
         ensures list { list_of self.new ≡ older_of (list_of self.old) }

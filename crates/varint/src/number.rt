@@ -23,6 +23,7 @@ pub struct NoRoom;
 struct Reading {
     value: u32,
     end: usize,
+    // a question answered beside the value, which stands either way: an enum of two would be matched where this is tested
     shortest: bool,
 }
 

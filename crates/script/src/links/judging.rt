@@ -79,7 +79,7 @@ pub(crate) fn link(script: &Instructions) -> Result<Links, ImageRefusal>
     ensures { Linked (list_of script.now) result }
 {
     let mut links = Links::none();
-    // a frame that is still open is told behind the last address
+    // addresses and no iterator: each is judged by its neighbours, and a frame that is still open is told behind the last
     let end = script.count() + 1;
     for address in 1..end {
         links.judge(script, address)?;
