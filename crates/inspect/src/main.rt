@@ -39,6 +39,7 @@ fn show(rt: &HostRuntime, entries: &[Entry], bytes: usize) -> Result<(), Failure
         return Ok(());
     }
     println!(rt)?;
+    // printed here and for the counts below: a function for these three lines would be called with as many words
     for line in lines.iter() {
         println!(rt; "{line}")?;
     }

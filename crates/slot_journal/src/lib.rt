@@ -16,7 +16,7 @@ pub struct SlotJournal<'a> {
     ghost within: { len ≤ length slots.now },
 }
 
-// The newest entry and where it stands.
+// The newest entry and where it stands. A packed journal's `Last` is another pair: each is private to its crate.
 #[derive(Clone, Copy, PartialEq, Eq, Debug)]
 struct Newest {
     entry: Entry,
