@@ -1,4 +1,3 @@
-pub mod Addresses
 pub mod Outside
 pub mod Searches
 pub mod Turns
