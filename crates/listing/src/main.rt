@@ -40,6 +40,7 @@ fn show<L: Display>(rt: &HostRuntime, title: &str, lines: &[L], bytes: usize) ->
     let count = lines.len();
     println!(rt; "{title}: instructions {count}, bytes {bytes}")?;
     println!(rt)?;
+    // as in `inspect`: a function for these three lines would be called with as many words
     for line in lines {
         println!(rt; "{line}")?;
     }
