@@ -1,9 +1,7 @@
 -- The laws of reading.
 use Rattle.std.proofs.Common.{◌≡◌, ℕ, zero, suc, ◌+◌, ◌-◌, ◌*◌, ◌/◌, ◌%◌, ◌<◌, ◌≤◌, Bool, true, false, cond, ◌&&◌, eqb, ltb, leb, ◌⊎◌, List, [], ◌∷◌, ◌++◌, length, get_or, take, drop, Ok, Err, Result, sym, refl, ap, ◌∙◌, subst, inl, inr, ⊎_elim, append_assoc, arith}
-use Rattle.std.proofs.lemmas.List.{get_or-drop, get_or_append_left, drop_more, drop_all, take_all, drop-drop, append-nil, length-append, length-drop}
-use Rattle.std.specs.List.{prefix_len, take_while}
-use Rattle.std.proofs.lemmas.List.Sums.{take_while-cons}
-use Rattle.std.proofs.lemmas.Bool.{ltb-true, ltb-false, lt-ltb, le-ltb, le-leb, lt-leb, eqb-true, eq-eqb, and_parts, and_from, and_left, and_right, cases_lt}
+use Rattle.std.proofs.lemmas.List.{get_or-drop, get_or_append_left, drop_more, drop_all, drop-drop, append-nil, append_cancel_right, length-append, length-drop}
+use Rattle.std.proofs.lemmas.Bool.{ltb-true, lt-ltb, le-ltb, le-leb, lt-leb, eqb-true, eq-eqb, and_parts, and_from, and_left, and_right, cases_lt}
 use Rattle.varint.specs.declared.number.Fault.{Fault}
 use Rattle.varint.specs.declared.number.Fault.TheVariants.{Malformed, Ended}
 use Rattle.varint.specs.declared.number.Reading.{Reading}
@@ -14,15 +12,18 @@ use Rattle.varint.proofs.WrittenBytes.{written_there}
 use Rattle.varint.proofs.Writings.{writing_small, writing_step, writing_more, size_most}
 
 -- later groups at the front, and what follows them
-pub later_groups_taken : (bs : List ℕ) → later_groups bs ≡ take_while (λ b. leb 128 b) bs
+pub later_stop : (bs : List ℕ) (n : ℕ) → (length bs ≤ n) ⊎ ((n < length bs) × (get_or bs n 0 < 128)) → later_groups (drop n bs) ≡ []
 unfolding later_groups
-later_groups_taken [] = refl
-later_groups_taken (b ∷ bs) =
-    ⊎_elim
-    (λ h. ap (λ t. cond t [] (b ∷ later_groups bs)) (lt-ltb b 128 h) ∙ sym (take_while-cons (λ b. leb 128 b) b bs ∙ ap (λ t. cond t (b ∷ take_while (λ b. leb 128 b) bs) []) (lt-leb 128 b h)))
-    (λ h. ap (λ t. cond t [] (b ∷ later_groups bs)) (le-ltb b 128 h) ∙ ap (λ t. b ∷ t) (later_groups_taken bs)
-    ∙ sym (take_while-cons (λ b. leb 128 b) b bs ∙ ap (λ t. cond t (b ∷ take_while (λ b. leb 128 b) bs) []) (le-leb 128 b h)))
-    (cases_lt b 128)
+later_stop bs n (inl h) = ap later_groups (drop_all n bs h)
+later_stop bs n (inr h) =
+    ap later_groups (drop_more bs n 0 h.0)
+    ∙ ap (λ t. cond t [] (get_or bs n 0 ∷ later_groups (drop (n + 1) bs))) (lt-ltb (get_or bs n 0) 128 h.1)
+
+later_step : (bs : List ℕ) (n : ℕ) → n < length bs → 128 ≤ get_or bs n 0 → later_groups (drop n bs) ≡ get_or bs n 0 ∷ later_groups (drop (n + 1) bs)
+unfolding later_groups
+later_step bs n h l =
+    ap later_groups (drop_more bs n 0 h)
+    ∙ ap (λ t. cond t [] (get_or bs n 0 ∷ later_groups (drop (n + 1) bs))) (le-ltb (get_or bs n 0) 128 l)
 
 later_front : (bs : List ℕ) → bs ≡ later_groups bs ++ drop (length (later_groups bs)) bs
 unfolding later_groups
@@ -44,6 +45,11 @@ later_ended [] = tt
 later_ended (b ∷ bs) =
     elim (ltb b 128) as (λ t. ltb b 128 ≡ t → Ends (drop (length (cond t [] (b ∷ later_groups bs))) (b ∷ bs)))
     [ true ↦ λ e. ltb-true b 128 e | false ↦ λ e. later_ended bs ] refl
+
+value_above : (v : ℕ) (bs : List ℕ) → v ≤ value_after v bs
+unfolding value_after
+value_above v [] = omega arith
+value_above v (b ∷ bs) = omega (arith, value_above (v * 128 + (b - 128)) bs)
 
 same_is : (bs cs : List ℕ) → same_bytes bs cs ≡ true → bs ≡ cs
 unfolding same_bytes
@@ -145,21 +151,19 @@ shortest_padded v (g ∷ gs) h =
     elim (same_bytes (writing v) (0 ∷ g ∷ gs)) as (λ t. same_bytes (writing v) (0 ∷ g ∷ gs) ≡ t → t ≡ false)
     [ true ↦ λ e. absurd (no_padding v g gs (same_is (writing v) (0 ∷ g ∷ gs) e)) | false ↦ λ e. refl ] refl
 
+shortest_own : (bs : List ℕ) (at first v end : ℕ) → at < length bs → first ≡ get_or bs at 0 → end ≡ at + suc (length (later_groups (drop (at + 1) bs))) → drop at bs ≡ writing v ++ drop end bs
+    → same_bytes (writing v) (first ∷ later_groups (drop (at + 1) bs)) ≡ true
+shortest_own bs at first v end h f d e =
+    let later : List ℕ = later_groups (drop (at + 1) bs) in
+    let k : at + 1 + length later ≡ end = omega arith in
+    let front : drop (at + 1) bs ≡ later ++ drop end bs = later_front (drop (at + 1) bs) ∙ ap (λ t. later ++ t) (drop-drop (length later) (at + 1) bs ∙ ap (λ m. drop m bs) k) in
+    let both : writing v ++ drop end bs ≡ (first ∷ later) ++ drop end bs = sym e ∙ drop_more bs at 0 h ∙ (λ i. sym f i ∷ front i) in
+    let w : writing v ≡ first ∷ later = append_cancel_right (writing v) (first ∷ later) (drop end bs) both in
+    ap (λ t. same_bytes t (first ∷ later)) w ∙ is_same (first ∷ later)
+
 abbrev Later : List ℕ → Type 0
 Later [] = Unit {0}
 Later (b ∷ bs) = (128 ≤ b) × Later bs
-
-later_groups_are_later : (bs : List ℕ) → Later (later_groups bs)
-unfolding later_groups
-later_groups_are_later [] = tt
-later_groups_are_later (b ∷ bs) =
-    elim (ltb b 128) as (λ t. ltb b 128 ≡ t → Later (cond t [] (b ∷ later_groups bs)))
-    [ true ↦ λ e. tt | false ↦ λ e. (ltb-false b 128 e, later_groups_are_later bs) ] refl
-
-later_at : (bs : List ℕ) (j : ℕ) → Later bs → j < length bs → 128 ≤ get_or bs j 0
-later_at [] j h l = absurd (omega arith)
-later_at (b ∷ bs) zero h l = h.0
-later_at (b ∷ bs) (suc j) h l = later_at bs j h.1 (omega arith)
 
 later_push : (bs : List ℕ) (b : ℕ) → Later bs → 128 ≤ b → Later (bs ++ b ∷ [])
 later_push [] b h l = (l, tt)
@@ -225,65 +229,73 @@ pub written_read_back : (xs ys : List ℕ) (at n end : ℕ) → n < 4294967296 �
 written_read_back xs ys at n end l w =
     read_writing (take end ys) at n [] l tt (written_there xs ys (writing n) at end w ∙ sym (append-nil (writing n))) ∙ ap (λ k. Ok (n, k)) (sym w.ends)
 
--- the value so far, and one group more
-pub value_step : (value : ℕ) (later : List ℕ) (i : ℕ) → i < length later → value_after value (drop i later) ≡ value_after (value * 128 + (get_or later i 0 - 128)) (drop (i + 1) later)
+-- where a reader stands that began at the place `at` and has the value of what lies before `end`
+pub record Scanning (bs : List ℕ) (at end value : ℕ) : Type 0 where
+  pub forward : at < end
+  pub within : end ≤ length bs
+  pub few : end ≤ at + 5
+  pub sized : value < 4294967296
+  pub whole : value_after (get_or bs at 0) (later_groups (drop (at + 1) bs)) ≡ value_after value (later_groups (drop end bs))
+  pub left : at + 1 + length (later_groups (drop (at + 1) bs)) ≡ end + length (later_groups (drop end bs))
+  pub used : 0 < get_or bs at 0 → 0 < value
+  pub own : (end ≡ at + 1) ⊎ (0 < get_or bs at 0) → drop at bs ≡ writing value ++ drop end bs
+
+pub scanning_starts : (bs : List ℕ) (at value : ℕ) → at < length bs → get_or bs at 0 < 128 → value ≡ get_or bs at 0 → Scanning bs at (at + 1) value
+scanning_starts bs at value h l e = record {
+  forward = omega arith;
+  within = omega arith;
+  few = omega arith;
+  sized = omega arith;
+  whole = ap (λ v. value_after v (later_groups (drop (at + 1) bs))) (sym e);
+  left = refl;
+  used = λ p. omega arith;
+  own = λ _. drop_more bs at 0 h ∙ ap (λ t. t ++ drop (at + 1) bs) (sym (writing_small (get_or bs at 0) l)) ∙ ap (λ v. writing v ++ drop (at + 1) bs) (sym e);
+}
+
+pub scanning_goes_on : (bs : List ℕ) (at end value group : ℕ) → Scanning bs at end value → end < length bs → 128 ≤ get_or bs end 0 → get_or bs end 0 < 256 → end - at < 5 → value ≤ 33554431 → group ≡ get_or bs end 0 - 128 → Scanning bs at (end + 1) (value * 128 + group)
 unfolding value_after
-value_step value later i h = ap (value_after value) (drop_more later i 0 h)
+scanning_goes_on bs at end value group s h l u f m e =
+    let step = later_step bs end h l in
+    let b : get_or bs end 0 ≡ 128 + group = omega arith in
+    record {
+      forward = omega (arith, s.forward);
+      within = omega arith;
+      few = omega (arith, s.few, s.forward);
+      sized = omega arith;
+      whole = s.whole ∙ ap (value_after value) step ∙ ap (λ g. value_after (value * 128 + g) (later_groups (drop (end + 1) bs))) (sym e);
+      left = omega (arith, s.left, ap length step);
+      used = λ p. omega (arith, s.used p);
+      own = λ w. ⊎_elim (λ z. absurd (omega (arith, z, s.forward)))
+          (λ p. s.own (inr p) ∙ ap (λ t. writing value ++ t) (drop_more bs end 0 h ∙ ap (λ t. t ∷ drop (end + 1) bs) b)
+          ∙ sym (append_assoc (writing value) ((128 + group) ∷ []) (drop (end + 1) bs))
+          ∙ ap (λ t. t ++ drop (end + 1) bs) (sym (writing_more value group (s.used p) (omega arith)))) w;
+    }
 
-pub value_done : (value : ℕ) (later : List ℕ) (i : ℕ) → length later ≤ i → value_after value (drop i later) ≡ value
+pub scanning_fails : (bs : List ℕ) (at end value : ℕ) → Scanning bs at end value → end < length bs → 128 ≤ get_or bs end 0 → (5 ≤ end - at) ⊎ (33554431 < value) → scanned bs at ≡ Err (Malformed at)
 unfolding value_after
-value_done value later i h = ap (value_after value) (drop_all i later h)
+scanning_fails bs at end value s h l w =
+    let step = later_step bs end h l in
+    scanned_within bs at (omega (arith, s.forward)) ∙ judged_wrong at (get_or bs at 0) (later_groups (drop (at + 1) bs))
+    (inr (⊎_elim (λ f. inl (omega (arith, s.left, s.forward, ap length step)))
+    (λ v. inr (omega (arith, s.whole ∙ ap (value_after value) step, value_above (value * 128 + (get_or bs end 0 - 128)) (later_groups (drop (end + 1) bs))))) w))
 
--- groups behind a number that is not 0 are those of its writing
-writing_goes_on : (v : ℕ) (gs : List ℕ) → 0 < v → Later gs → ((i : ℕ) → get_or gs i 0 < 256) → writing (value_after v gs) ≡ writing v ++ gs
+pub scanning_ends : (bs : List ℕ) (at end value : ℕ) (shortest : Bool) → Scanning bs at end value → get_or bs at 0 < 128 → later_groups (drop end bs) ≡ []
+    → (shortest ≡ true → (end ≡ at + 1) ⊎ (0 < get_or bs at 0)) → (shortest ≡ false → (get_or bs at 0 ≡ 0) × (at + 1 < end)) → scanned bs at ≡ Ok (record { value = value; end = end; shortest = shortest })
 unfolding value_after
-writing_goes_on v [] p l f = sym (append-nil (writing v))
-writing_goes_on v (g ∷ gs) p l f =
-    let back : 128 + (g - 128) ≡ g = omega (arith, l.0) in
-    writing_goes_on (v * 128 + (g - 128)) gs (omega arith) l.1 (λ i. f (suc i))
-    ∙ ap (λ t. t ++ gs) (writing_more v (g - 128) p (omega (arith, f 0)))
-    ∙ append_assoc (writing v) ((128 + (g - 128)) ∷ []) gs
-    ∙ ap (λ b. writing v ++ (b ∷ gs)) back
-
-shortest_own : (first : ℕ) (later : List ℕ) → first < 128 → Later later → ((i : ℕ) → get_or later i 0 < 256) → (later ≡ []) ⊎ (0 < first) → same_bytes (writing (value_after first later)) (first ∷ later) ≡ true
-unfolding value_after
-shortest_own first later h l f (inl e) =
-    ap (λ t. same_bytes (writing (value_after first t)) (first ∷ t)) e ∙ ap (λ t. same_bytes t (first ∷ [])) (writing_small first h) ∙ is_same (first ∷ [])
-shortest_own first later h l f (inr p) =
-    ap (λ t. same_bytes t (first ∷ later)) (writing_goes_on first later p l f ∙ ap (λ t. t ++ later) (writing_small first h)) ∙ is_same (first ∷ later)
-
--- a first byte and the later groups behind it
-pub record GroupsAt (bs : List ℕ) (at first : ℕ) (later : List ℕ) : Type 0 where
-  pub within : at < length bs
-  pub starts : first ≡ get_or bs at 0
-  pub goes_on : later ≡ later_groups (drop (at + 1) bs)
-
-pub counted_groups : (bs : List ℕ) (at first count : ℕ) → at < length bs → first ≡ get_or bs at 0 → count ≡ prefix_len (λ b. leb 128 b) (take (length bs - (at + 1)) (drop (at + 1) bs))
-    → GroupsAt bs at first (take (at + 1 + count - (at + 1)) (drop (at + 1) bs))
-counted_groups bs at first count h f e =
-    let rest : List ℕ = drop (at + 1) bs in
-    let k : at + 1 + count - (at + 1) ≡ count = omega arith in
-    let all : take (length bs - (at + 1)) rest ≡ rest = take_all (length bs - (at + 1)) rest (omega (arith, length-drop (at + 1) bs)) in
-    record { within = h; starts = f; goes_on = ap (λ n. take n rest) (k ∙ e ∙ ap (prefix_len (λ b. leb 128 b)) all) ∙ sym (later_groups_taken rest) }
-
-pub scanned_groups : (bs later : List ℕ) (at first : ℕ) → GroupsAt bs at first later → scanned bs at ≡ judged at first later
-scanned_groups bs later at first g = scanned_within bs at g.within ∙ (λ i. judged at (sym g.starts i) (sym g.goes_on i))
-
-pub later_group : (bs later : List ℕ) (at first i : ℕ) → GroupsAt bs at first later → i < length later → 128 ≤ get_or later i 0
-later_group bs later at first i g h = later_at later i (subst Later (sym g.goes_on) (later_groups_are_later (drop (at + 1) bs))) h
-
-pub scanned_number : (bs later : List ℕ) (at first value end : ℕ) → GroupsAt bs at first later → ((i : ℕ) → get_or later i 0 < 256) → first < 128 → length later ≤ 4
-    → value_after first later ≡ value → value < 4294967296 → at + suc (length later) ≡ end → (shortest : Bool) → (shortest ≡ true → (later ≡ []) ⊎ (0 < first)) → (shortest ≡ false → (0 < length later) × (first ≡ 0))
-    → scanned bs at ≡ Ok (record { value = value; end = end; shortest = shortest })
-scanned_number bs later at first value end g f s l v u k shortest yes· no· =
-    let flag : same_bytes (writing (value_after first later)) (first ∷ later) ≡ shortest =
-    elim shortest as (λ t. (t ≡ true → (later ≡ []) ⊎ (0 < first)) → (t ≡ false → (0 < length later) × (first ≡ 0)) → same_bytes (writing (value_after first later)) (first ∷ later) ≡ t) [
-      | true ↦ λ p q. shortest_own first later s (subst Later (sym g.goes_on) (later_groups_are_later (drop (at + 1) bs))) f (p refl)
-      | false ↦ λ p q. ap (λ t. same_bytes (writing (value_after first later)) (t ∷ later)) (q refl).1 ∙ shortest_padded (value_after first later) later (q refl).0
+scanning_ends bs at end value shortest s f stop yes· no· =
+    let first : ℕ = get_or bs at 0 in
+    let later : List ℕ = later_groups (drop (at + 1) bs) in
+    let v : value_after first later ≡ value = s.whole ∙ ap (value_after value) stop in
+    let k : at + suc (length later) ≡ end = omega (arith, s.left, ap length stop) in
+    let flag : same_bytes (writing value) (first ∷ later) ≡ shortest =
+    elim shortest as (λ t. (t ≡ true → (end ≡ at + 1) ⊎ (0 < get_or bs at 0)) → (t ≡ false → (get_or bs at 0 ≡ 0) × (at + 1 < end)) → same_bytes (writing value) (first ∷ later) ≡ t) [
+      | true ↦ λ p q. shortest_own bs at first value end (omega (arith, s.forward, s.within)) refl (sym k) (s.own (p refl))
+      | false ↦ λ p q. ap (λ t. same_bytes (writing value) (t ∷ later)) (q refl).0 ∙ shortest_padded value later (omega (arith, (q refl).1))
     ] yes· no· in
-    scanned_groups bs later at first g
-    ∙ judged_right at first later s l (omega (arith, v))
-    ∙ (λ i. Ok (record { value = v i; end = k i; shortest = flag i }))
+    scanned_within bs at (omega (arith, s.forward, s.within))
+    ∙ judged_right at first later f (omega (arith, s.few)) (omega (arith, v, s.sized))
+    ∙ (λ i. Ok (record { value = v i; end = k i; shortest = same_bytes (writing (v i)) (first ∷ later) }))
+    ∙ ap (λ t. Ok (record { value = value; end = end; shortest = t })) flag
 
 -- what is read is a writing
 own_shortest : (bs : List ℕ) (at : ℕ) (r : Result Reading Fault) (v end : ℕ) → scanned bs at ≡ r → only_shortest at r ≡ Ok (v, end) → WritingAt bs at v end
@@ -304,6 +316,11 @@ pub ends_before_writing : (n : ℕ) (xs : List ℕ) → Ends (writing n ++ xs)
 ends_before_writing n xs = let p = shape n in subst (λ t. Ends (t ++ xs)) (sym p.is) p.small
 
 -- the bytes of a number that was read: a first byte, later groups, and then the end or another first byte
+later_at : (bs : List ℕ) (j : ℕ) → Later bs → j < length bs → 128 ≤ get_or bs j 0
+later_at [] j h l = absurd (omega arith)
+later_at (b ∷ bs) zero h l = h.0
+later_at (b ∷ bs) (suc j) h l = later_at bs j h.1 (omega arith)
+
 own_length : (bs : List ℕ) (at v end : ℕ) → WritingAt bs at v end → end ≡ at + length (writing v)
 own_length bs at v end o =
     omega (arith, o.forward, o.within, ap length o.bytes ∙ length-append (writing v) (drop end bs), length-drop at bs, length-drop end bs)

@@ -1,7 +1,10 @@
--- The value of the groups so far.
-use Rattle.std.proofs.Common.{◌≡◌, ◌+◌, ◌^◌, ◌<◌, drop}
-use Rattle.varint.specs.Readings.{value_after}
+-- How far a reader has come, and that it goes on to the end of the bytes.
+use Rattle.std.proofs.Common.{◌-◌, length}
+use Rattle.varint.proofs.Readings.{Scanning}
 use Rattle.varint.proofs.number.scan.Given as goal
 
-abbrev pub invariant-loop-byte : goal.invariant-loop-byte
-invariant-loop-byte l = (value_after l.first l.later ≡ value_after l.value (drop l.byte-index l.later)) × (l.value < 128 ^ (l.byte-index + 1))
+abbrev pub invariant-loop-end : goal.invariant-loop-end
+invariant-loop-end l = Scanning l.bytes l.at l.end l.value
+
+abbrev pub decreases-loop-end : goal.decreases-loop-end
+decreases-loop-end l = length l.bytes - l.end
