@@ -1,5 +1,5 @@
 -- Differences and original numbers yield each other back.
-use Rattle.std.proofs.Common.{◌≡◌, List, [], ◌∷◌, Some, ℤ, pos, ◌-ℤ◌, sym, refl, ap, ◌∙◌, subst, arith, lit<, w32, SFits}
+use Rattle.std.proofs.Common.{◌≡◌, List, [], ◌∷◌, Some, ℤ, pos, ◌-ℤ◌, sym, refl, ap, ◌∙◌, arith, lit<, w32, SFits}
 use Rattle.std.specs.Int.{int_wrap}
 use Rattle.std.proofs.lemmas.Int.{ints, SFits-int_wrap, int_wrap-sub_right, int_wrap_fits}
 use Rattle.journal.specs.declared.entry.Entry.{Entry}
@@ -48,16 +48,12 @@ differences_of_originals (d ∷ ds) kept f =
     sym (ap (λ n. int_wrap w32 (n -ℤ before)) (int_wrap_fits w32 kept f) ∙ number_less_difference_is_number_before kept d.number (number_fits d)) in
     difference_stands_on_differences ds before d (renumbered d kept) g refl refl r (differences_of_originals ds before g)
 
-pub difference_on_base : (ds : List Entry) (kept base : ℤ) (d e : Entry) → base_of kept ds ≡ base → SFits w32 kept → d.owner ≡ e.owner → d.kind ≡ e.kind → d.number ≡ int_wrap w32 (e.number -ℤ kept) → differences base (e ∷ originals kept ds) ≡ d ∷ ds
-difference_on_base ds kept base d e h f p q r =
-    subst (λ b. differences b (e ∷ originals kept ds) ≡ d ∷ ds) h (difference_stands_on_differences ds kept d e f p q r (differences_of_originals ds kept f))
-
 pub numbers_come_back : NumbersComeBack
 numbers_come_back = ((λ l. originals_of_differences l (pos 0) (record { sfits = lit< tt })), (λ kept ds f. differences_of_originals ds kept f))
 
 -- without the newest difference
-pub popped_base : (held left : List Entry) (d : Entry) (kept before : ℤ) → Some d ≡ newest_of held → left ≡ older_of held → before ≡ int_wrap w32 (kept -ℤ d.number) → base_of kept held ≡ pos 0 → base_of before left ≡ pos 0
-popped_base held left d kept before n o b e = (λ i. base_of (b i) (o i)) ∙ sym (ap (base_of kept) (newest_and_older held d n)) ∙ e
+pub popped_base : (held left : List Entry) (d : Entry) (kept before : ℤ) → Some d ≡ newest_of held → left ≡ older_of held → before ≡ int_wrap w32 (kept -ℤ d.number) → base_of before left ≡ base_of kept held
+popped_base held left d kept before n o b = (λ i. base_of (b i) (o i)) ∙ sym (ap (base_of kept) (newest_and_older held d n))
 
 pub popped_originals : (held left : List Entry) (d : Entry) (kept before : ℤ) → Some d ≡ newest_of held → left ≡ older_of held → before ≡ int_wrap w32 (kept -ℤ d.number) → originals before left ≡ older_of (originals kept held)
 popped_originals held left d kept before n o b = (λ i. originals (b i) (o i)) ∙ sym (ap (λ l. older_of (originals kept l)) (newest_and_older held d n))

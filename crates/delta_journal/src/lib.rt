@@ -11,12 +11,12 @@ use journal::journal::{Full, Journal};
 use journal::refusal::{LayRefusal, Refused};
 
 // Beneath lie the entries, each with its number less the number before; kept is the newest number.
+// No fact that the number before the oldest entry is 0 stands in the type: a struct that holds a layer on a layer
+// could not be generic then.
 #[derive(Drop)]
 pub struct Delta<J: Journal> {
     below: J,
     kept: i32,
-    // the number before the oldest entry is 0
-    ghost based: { base_of kept (J.entries below) ≡ pos 0 },
 }
 
 impl<J: Journal> Delta<J> {
@@ -34,7 +34,8 @@ impl<J: Journal> Delta<J> {
     #[tactic(auto, using(crate::proofs::Back::numbers_come_back))]
     pub fn lay(journal: J) -> Result<Delta<J>, Refused<J>>
         ensures laid { IfOk result (λ d. (J.entries journal ≡ []) × (d.below ≡ journal) × (d.kept ≡ pos 0) × (originals d.kept (J.entries d.below) ≡ [])) }
-        ensures rule { IfOk result (λ d. differences_fit (J.fits d.below) (pos 0) ≡ differences_fit (J.fits journal) (pos 0)) }
+        ensures rule { IfOk result (λ d. differences_fit (J.fits d.below) (base_of d.kept (J.entries d.below)) ≡ differences_fit (J.fits journal) (pos 0)) }
+        ensures rule_from_zero { IfOk result (λ d. differences_fit (J.fits d.below) (pos 0) ≡ differences_fit (J.fits journal) (pos 0)) }
         ensures numbers_come_back { OnOk result (NumbersComeBack) }
         ensures handed_back { IfErr result (λ f. (J.entries journal ≢ []) × (f.back ≡ journal) × (f.refusal ≡ LayRefusal.EntryBeneath) × (told f.refusal ≡ (14, 0))) }
     {
@@ -55,7 +56,7 @@ impl<J: Journal> Delta<J> {
     fn difference(&self, entry: Entry) -> Entry
         ensures entry_back { renumbered result entry.number ≡ entry }
         ensures kept_back { int_wrap w32 (entry.number -ℤ result.number) ≡ self.now.kept }
-        ensures list { differences (pos 0) (entry ∷ originals self.now.kept (J.entries self.now.below)) ≡ result ∷ J.entries self.now.below }
+        ensures list { differences (base_of self.now.kept (J.entries self.now.below)) (entry ∷ originals self.now.kept (J.entries self.now.below)) ≡ result ∷ J.entries self.now.below }
     {
         renumbered(entry, entry.number.wrapping_sub(self.kept))
     }
@@ -75,7 +76,7 @@ fn renumbered(entry: Entry, number: i32) -> Entry
 impl<J: Journal> Journal for Delta<J> {
     ghost entries = { λ s. originals s.kept (J.Journal.entries s.below) };
 
-    ghost fits = { λ s. differences_fit (J.Journal.fits s.below) (pos 0) };
+    ghost fits = { λ s. differences_fit (J.Journal.fits s.below) (base_of s.kept (J.Journal.entries s.below)) };
 
     fn push(&mut self, entry: Entry) -> Result<(), Full> {
         let difference = self.difference(entry);

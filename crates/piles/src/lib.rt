@@ -125,4 +125,33 @@ mod tests {
         assert_eq!(rt; through_two_layers(&mut slots, entry), Some(entry));
         assert_eq!(rt; through_two_layers(&mut [], entry), None);
     }
+
+    // Generic over what lies beneath its two layers: a layer's type must not stand in the way.
+    #[derive(Drop)]
+    struct Pile<J: Journal> {
+        upper: Delta<Delta<J>>,
+    }
+
+    impl<J: Journal> Pile<J> {
+        fn newest(&self) -> Option<Entry> {
+            self.upper.newest()
+        }
+    }
+
+    #[test]
+    fn a_generic_pile_shows_the_newest_entry(rt: HostRuntime) -> Result<(), Fail> {
+        let entry = history()[3];
+        let mut slots = [history()[0]; 1];
+        let Ok(lower) = Delta::lay(SlotJournal::new(&mut slots)) else {
+            return Err(Fail::new("the lower layer is refused"));
+        };
+        let Ok(upper) = Delta::lay(lower) else {
+            return Err(Fail::new("the upper layer is refused"));
+        };
+        let mut pile = Pile { upper };
+        assert_eq!(rt; pile.newest(), None);
+        let _ = pile.upper.push(entry);
+        assert_eq!(rt; pile.newest(), Some(entry));
+        Ok(())
+    }
 }

@@ -3,7 +3,7 @@ use Rattle.std.proofs.Common.{◌-ℤ◌, ap, ◌∙◌, w32, SFits, rules}
 use Rattle.std.specs.Int.{int_wrap}
 use Rattle.std.proofs.lemmas.Int.{int_wrap_fits, wrapping_sub_is}
 use Rattle.journal.proofs.Entries.{same_entry, number_fits}
-use Rattle.delta_journal.proofs.Back.{number_less_difference_is_number_before, difference_number, difference_on_base}
+use Rattle.delta_journal.proofs.Back.{number_less_difference_is_number_before, difference_number, difference_stands_on_differences, differences_of_originals}
 use Rattle.delta_journal.proofs.Delta.difference.Goals as goal
 
 pub returns : goal.returns
@@ -19,5 +19,5 @@ returns g c =
     record {
       entry_back = same_entry _ e owner kind (int_wrap_fits w32 e.number (number_fits e));
       kept_back = ap (λ n. int_wrap w32 (e.number -ℤ n)) r ∙ number_less_difference_is_number_before e.number kept f;
-      list = difference_on_base below kept _ d e c.args.self.now.based f owner kind r;
+      list = difference_stands_on_differences below kept d e f owner kind r (differences_of_originals below kept f);
     }
