@@ -24,6 +24,7 @@ fn main(rt: HostRuntime) -> ExitCode {
 // One `run` for both programs, with what is shown as a closure, would borrow the usage for another lifetime.
 fn run(rt: &HostRuntime) -> Result<(), Failure<LayRefusal>> {
     let Some(mut bytes) = asked(rt, USAGE)? else {
+        rt.println(USAGE)?;
         return Ok(());
     };
     let entries = entries_in(rt.alloc(), bytes.as_mut_slice())?;

@@ -23,6 +23,7 @@ fn main(rt: HostRuntime) -> ExitCode {
 // One `run` for both programs, with what is shown as a closure, would borrow the usage for another lifetime.
 fn run(rt: &HostRuntime) -> Result<(), Failure<ImageRefusal>> {
     let Some(bytes) = asked(rt, USAGE)? else {
+        rt.println(USAGE)?;
         return Ok(());
     };
     let heap = rt.alloc();

@@ -1,1 +1,2 @@
 pub mod FailureWords
+pub mod NoBytes

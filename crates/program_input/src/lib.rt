@@ -1,8 +1,9 @@
 // What a program that shows bytes is asked for, and how it ends.
 #![tactic(auto)]
 
-ghost use Rattle.std.specs.Prelude.{◌≡◌, MatchResult};
+ghost use Rattle.std.specs.Prelude.{◌≡◌, IfErr, MatchResult};
 ghost use Rattle.std.specs.Process.{exit_status};
+ghost use Rattle.program_input.specs.NoBytes.{NoBytes};
 
 use failure::Failure;
 use std::io::Read;
@@ -12,11 +13,10 @@ use std::{env, fmt, fs};
 pub mod failure;
 
 // The bytes that the words behind the program's name ask for: those of the file that its one word names, or else of standard input.
-// None where they ask for help, which is the usage, and has been printed.
-pub fn asked<R: Drop>(
-    rt: &HostRuntime,
-    usage: &'static str,
-) -> Result<Option<Vec<u8>>, Failure<R>> {
+// None where they ask for help, which is the usage; to print it is left to the caller.
+pub fn asked<R: Drop>(rt: &HostRuntime, usage: &'static str) -> Result<Option<Vec<u8>>, Failure<R>>
+    ensures { IfErr result (NoBytes) }
+{
     // by hand: clap would say the help and the refusals in words of its own
     let mut words = env::args(rt)?.skip(1);
     let Some(word) = words.next() else {
@@ -26,14 +26,15 @@ pub fn asked<R: Drop>(
         return Err(Failure::Usage(usage));
     }
     if word.as_str() == "--help" {
-        rt.println(usage)?;
         return Ok(None);
     }
     let bytes = fs::read(rt, word.as_str()).map_err(|error| Failure::Unread(word, error))?;
     Ok(Some(bytes))
 }
 
-fn standard_input<R: Drop>(rt: &HostRuntime) -> Result<Vec<u8>, Failure<R>> {
+fn standard_input<R: Drop>(rt: &HostRuntime) -> Result<Vec<u8>, Failure<R>>
+    ensures { IfErr result (NoBytes) }
+{
     let mut bytes = Vec::new(rt.alloc());
     rt.stdin().read_to_end(&mut bytes)?;
     Ok(bytes)
