@@ -58,7 +58,8 @@ pub(crate) fn numbered<I: Copy, T: Iterator<Item = I> + Drop>(
 pub fn lines(heap: Global, script: &Script) -> Result<Vec<Line<Instruction>>, AllocError>
     ensures { IfOk result (λ v. v.items ≡ lines_of (instructions_of script.now)) }
 {
-    numbered(heap, script.instructions().iter().copied())
+    let forward = numbered(heap, script.instructions().iter().copied())?;
+    Ok(forward)
 }
 
 impl<I: Listed> fmt::Display for Line<I> {

@@ -19,7 +19,8 @@ pub fn mirror_lines(
     ensures { IfOk result (λ v. v.items ≡ lines_of (mirrors_of (instructions_of script.now))) }
 {
     let mirrors = script.instructions().iter().rev().map(|i| i.mirror());
-    numbered(heap, mirrors)
+    let lines = numbered(heap, mirrors)?;
+    Ok(lines)
 }
 
 impl Listed for MirrorInstruction {
